@@ -1,0 +1,3 @@
+//! The outside.
+pub mod folder;
+pub mod stream;
