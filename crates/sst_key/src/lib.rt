@@ -1,13 +1,12 @@
-// A library with one function.
+//! Entries and keys.
 #![tactic(auto)]
 
-ghost use Rattle.std.specs.Prelude.{◌≡◌};
-ghost use Rattle.sst_key.specs.Echo.{echo_of};
+mod calls;
+mod entries;
+mod faults;
+mod keys;
 
-// The `ensures` clause is the contract: what `echo` returns is `echo_of` of its argument, a definition
-// in `specs/Echo.antt`, which a caller's clause can cite too.
-pub fn echo(x: usize) -> usize
-    ensures { result ≡ echo_of x }
-{
-    x
-}
+pub use calls::{Call, Format, Reply, Target};
+pub use entries::{Entry, EntryView, Kind};
+pub use faults::WriteFault;
+pub use keys::{cmp_internal, internal_order_is_entry_order, pack};

@@ -1,13 +1,12 @@
-// A library with one function.
+//! Numbers, handles and bytes.
 #![tactic(auto)]
 
-ghost use Rattle.std.specs.Prelude.{◌≡◌};
-ghost use Rattle.sst_num.specs.Echo.{echo_of};
+mod block_handle;
+mod byte_list;
+mod put;
+mod stops;
 
-// The `ensures` clause is the contract: what `echo` returns is `echo_of` of its argument, a definition
-// in `specs/Echo.antt`, which a caller's clause can cite too.
-pub fn echo(x: usize) -> usize
-    ensures { result ≡ echo_of x }
-{
-    x
-}
+pub use block_handle::Handle;
+pub use byte_list::Bytes;
+pub use put::{put_fixed16, put_fixed32, put_fixed64, put_handle, put_varint32, put_varint64};
+pub use stops::{Memory, Refused, Stop};

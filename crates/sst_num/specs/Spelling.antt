@@ -1,0 +1,28 @@
+-- The one spelling of each number and of each block handle in a file.
+-- RocksDB: util/coding.h (PutVarint64, PutFixed64, and their kin), table/format.h (BlockHandle::EncodeTo).
+use Rattle.std.specs.Prelude.{ℕ, zero, suc, ◌+◌, ◌*◌, ◌/◌, ◌%◌, List, [], ◌∷◌, ◌++◌, nat_lt, if◌then◌else◌}
+use Rattle.sst_num.specs.declared.block_handle.Handle.{Handle}
+
+-- a number in at most n + 1 groups of seven bits, the lowest group first; a byte of 128 and more says that
+-- another follows
+abbrev pub groups : ℕ → ℕ → List ℕ
+groups zero v = v ∷ []
+groups (suc n) v = if nat_lt v 128 then v ∷ [] else (v % 128 + 128) ∷ groups n (v / 128)
+
+-- the shortest spelling of a number below 2 ^ 64 as a varint, of at most ten bytes
+unfoldable pub varint : ℕ → List ℕ
+varint v = groups 9 v
+
+-- a number in n bytes, the lowest byte first
+abbrev pub fixed : ℕ → ℕ → List ℕ
+fixed zero v = []
+fixed (suc n) v = (v % 256) ∷ fixed n (v / 256)
+
+-- a block handle: where the block begins, and how long it is without its trailer
+abbrev pub handle_spelling : Handle → List ℕ
+handle_spelling h = varint h.offset ++ varint h.size
+
+-- the number that some bytes spell, the lowest byte first
+abbrev pub fixed_value : List ℕ → ℕ
+fixed_value [] = 0
+fixed_value (b ∷ bytes) = b + 256 * fixed_value bytes
