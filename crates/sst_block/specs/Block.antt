@@ -1,0 +1,103 @@
+-- What the bytes of a block say: its rows, joined, then the places of its restarts, then how many those are.
+-- RocksDB: table/block_based/block_builder.cc (the layout at its top), table/block_based/block.h; wiki page
+-- "Rocksdb BlockBasedTable Format".
+use Rattle.std.specs.Prelude.{◌≡◌, ℕ, zero, suc, ◌+◌, ◌-◌, ◌*◌, ◌%◌, ◌^◌, ◌<◌, ◌≤◌, ◌==◌, if◌then◌else◌, Bool, true, false, List, [], ◌∷◌, ◌++◌, length, drop, map, All, Contains, Some, slice_get}
+use Rattle.std.specs.List.{flat_map}
+use Rattle.std.specs.List.Sorted.{IsStrictlyIncreasing}
+use Rattle.std.specs.Ordering.{nat_cmp}
+use Rattle.std.specs.Cmp.Lexicographic.{slice_cmp}
+use Rattle.std.specs.declared.cmp.Ordering.{Ordering}
+use Rattle.std.specs.declared.cmp.Ordering.TheVariants.{Less}
+use Rattle.sst_num.specs.declared.block_handle.Handle.{Handle}
+use Rattle.sst_num.specs.Spelling.{varint, fixed, handle_spelling}
+use Rattle.sst_key.specs.declared.entries.Kind.{Kind}
+use Rattle.sst_key.specs.Entry.{internal_key}
+use Rattle.sst_key.specs.InternalKey.{internal_cmp}
+use Rattle.sst_block.specs.declared.row_form.RowForm.{RowForm}
+use Rattle.sst_block.specs.declared.row_form.RowForm.TheVariants.{Entries, Names, Index}
+
+-- a row of a block
+pub record Row : Type 0 where
+  pub key : List ℕ
+  pub value : List ℕ
+
+-- a row as it is spelled: the first `shared` bytes of its key are left to the row before
+pub record Spelled : Type 0 where
+  pub shared : ℕ
+  pub row : Row
+
+-- how many bytes two keys have in common at their fronts
+abbrev pub common : List ℕ → List ℕ → ℕ
+common [] b = 0
+common (x ∷ a) [] = 0
+common (x ∷ a) (y ∷ b) = if x == y then suc (common a b) else 0
+
+-- a row: three lengths, the rest of the key, the value
+abbrev pub row_spelling : Spelled → List ℕ
+row_spelling s =
+    varint s.shared ++ (varint (length s.row.key - s.shared) ++ (varint (length s.row.value) ++ (drop s.shared s.row.key ++ s.row.value)))
+
+-- each row shares no more with the row before than their keys have in common; `before` is the key before
+abbrev pub SharesFronts : List ℕ → List Spelled → Type 0
+SharesFronts before [] = Unit {0}
+SharesFronts before (s ∷ rest) = (s.shared ≤ common before s.row.key) × SharesFronts s.row.key rest
+
+-- where the rows begin that share nothing; `at` is where the first row begins
+abbrev pub fresh_starts : ℕ → List Spelled → List ℕ
+fresh_starts at [] = []
+fresh_starts at (s ∷ rest) = (if s.shared == 0 then at ∷ [] else []) ++ fresh_starts (at + length (row_spelling s)) rest
+
+-- the restarts: the first is 0, they increase, and each is the start of a row that shares nothing; a block
+-- without rows has the one restart 0
+abbrev pub AreRestarts : List ℕ → List Spelled → Type 0
+AreRestarts restarts [] = restarts ≡ 0 ∷ []
+AreRestarts restarts (s ∷ rest) =
+    (slice_get restarts 0 ≡ Some 0) × IsStrictlyIncreasing restarts × All (Contains (fresh_starts 0 (s ∷ rest))) restarts
+
+-- the order of the keys of a block: of stored keys, or bytewise
+abbrev pub key_cmp : RowForm → List ℕ → List ℕ → Ordering
+key_cmp Entries a b = internal_cmp a b
+key_cmp Names a b = slice_cmp nat_cmp a b
+key_cmp (Index true delta) a b = slice_cmp nat_cmp a b
+key_cmp (Index false delta) a b = internal_cmp a b
+
+-- each key is before the next
+abbrev pub AreOrdered : RowForm → List Row → Type 0
+AreOrdered form [] = Unit {0}
+AreOrdered form (a ∷ []) = Unit {0}
+AreOrdered form (a ∷ b ∷ rest) = (key_cmp form a.key b.key ≡ Less) × AreOrdered form (b ∷ rest)
+
+-- the key is an internal key of one of the four kinds
+abbrev pub IsInternalKey : List ℕ → Type 0
+IsInternalKey key = (user : List ℕ) × (seq : ℕ) × (kind : Kind) × (seq < 2 ^ 56) × (key ≡ internal_key user seq kind)
+
+-- the value is a block handle and nothing else
+abbrev pub IsHandle : List ℕ → Type 0
+IsHandle value = (h : Handle) × (h.offset < 2 ^ 64) × (h.size < 2 ^ 64) × (value ≡ handle_spelling h)
+
+-- the row has the form: its key, and its value where the form says something of it
+abbrev pub HasForm : RowForm → Row → Type 0
+HasForm Entries row = IsInternalKey row.key
+HasForm Names row = Unit {0}
+HasForm (Index true delta) row = IsHandle row.value
+HasForm (Index false delta) row = (8 ≤ length row.key) × IsHandle row.value
+
+-- the row may stand in a block: a stored key has at most 65,544 bytes
+abbrev pub IsRow : RowForm → Row → Type 0
+IsRow form row = (length row.key ≤ 65544) × HasForm form row
+
+-- what follows the rows: each restart's place in four bytes, and then how many there are
+abbrev pub restarts_spelling : List ℕ → List ℕ
+restarts_spelling restarts = flat_map (fixed 4) restarts ++ fixed 4 (length restarts)
+
+-- the bytes stand for the rows
+pub record Block (form : RowForm) (bytes : List ℕ) (rows : List Row) : Type 0 where
+  pub spelled : List Spelled
+  pub restarts : List ℕ
+  pub are_rows : map (λ (s : Spelled). s.row) spelled ≡ rows
+  pub spelling : bytes ≡ flat_map row_spelling spelled ++ restarts_spelling restarts
+  pub fronts : SharesFronts [] spelled
+  pub places : AreRestarts restarts spelled
+  pub forms : All (IsRow form) rows
+  pub ordered : AreOrdered form rows
+  pub short : length bytes ≤ 2 ^ 29

@@ -1,0 +1,28 @@
+-- The one block that a builder makes of some rows: a restart at each `interval`-th row, and between them the
+-- longest shared fronts. RocksDB: BlockBuilder::Add and Finish in table/block_based/block_builder.cc.
+use Rattle.std.specs.Prelude.{ℕ, ◌+◌, ◌%◌, ◌==◌, if◌then◌else◌, List, [], ◌∷◌, ◌++◌, length}
+use Rattle.std.specs.List.{flat_map}
+use Rattle.sst_block.specs.Block.{Row, Spelled, common, row_spelling, restarts_spelling}
+
+-- the rows as they are spelled; `i` is the number of the first, `before` the key before it
+abbrev pub chosen : ℕ → ℕ → List ℕ → List Row → List Spelled
+chosen interval i before [] = []
+chosen interval i before (row ∷ rows) =
+    record { shared = if i % interval == 0 then 0 else common before row.key; row = row } ∷ chosen interval (i + 1) row.key rows
+
+-- where each `interval`-th row begins; `i` is the number of the first, `at` its place
+abbrev pub restarts_from : ℕ → ℕ → ℕ → List Spelled → List ℕ
+restarts_from interval i at [] = []
+restarts_from interval i at (s ∷ rest) =
+    (if i % interval == 0 then at ∷ [] else []) ++ restarts_from interval (i + 1) (at + length (row_spelling s)) rest
+
+-- the restarts of all rows; a block without rows has the one restart 0
+abbrev pub restarts_of : ℕ → List Spelled → List ℕ
+restarts_of interval [] = 0 ∷ []
+restarts_of interval (s ∷ rest) = restarts_from interval 0 0 (s ∷ rest)
+
+-- the bytes of the block
+unfoldable pub block_of : ℕ → List Row → List ℕ
+block_of interval rows =
+    let spelled = chosen interval 0 [] rows in
+    flat_map row_spelling spelled ++ restarts_spelling (restarts_of interval spelled)
