@@ -1,12 +1,49 @@
-//! Checksums of stored blocks.
+//! The checksum of a stored block: a masked CRC32C.
+//!
+//! # Layout
+//!
+//! Each block of a block-based file is followed by a trailer of five bytes. The first says how the
+//! block is compressed. The other four hold the checksum, over the block and that byte together:
+//!
+//! ```text
+//! +---------------------+-----------+--------------------------------------+
+//! | block               | type byte | masked checksum, fixed32, low first  |
+//! | any number of bytes | 1 byte    | 4 bytes                              |
+//! +---------------------+-----------+--------------------------------------+
+//! |<-------- crc32c over these ---->|
+//! ```
+//!
+//! The CRC32C is the remainder by the polynomial 0x1EDC6F41 (Castagnoli), bits of a byte lowest
+//! first, started as all ones and inverted at the end. A file never keeps it as it is, since the
+//! CRC of bytes that have their own CRC among them tells little. It keeps the masked form: turned
+//! right by 15 bits, plus 0xa282ead8, in 32 bits.
+//!
+//! # Example
+//!
+//! The block `6b 65 79` (the text `key`), not compressed, is stored as eight bytes:
+//!
+//! ```text
+//! 6b 65 79              the block
+//! 00                    the type byte: not compressed
+//! 7e 04 ae f3           0xf3ae047e, which is 0x8cd32895 masked
+//! ```
+//!
+//! # Promises
+//!
+//! - [`crc32c`] is the CRC32C of its bytes, as the definition says it bit by bit, at any length.
+//! - [`mask`] is the stored form of a checksum, and [`unmask`] gives back what was masked: no two
+//!   checksums have one stored form.
+//! - No call fails, allocates or changes its argument.
+//!
+//! RocksDB: util/crc32c.h (`Value`, `Mask`, `Unmask`) and util/crc32c.cc. For the trailer: the wiki
+//! page "Rocksdb BlockBasedTable Format", and table/format.cc (`ComputeBuiltinChecksum`).
 #![tactic(auto)]
 
-ghost use Rattle.std.specs.Prelude.{◌≡◌, ℕ, ◌^◌, ◌<◌};
-ghost use Rattle.sst_sums.specs.Sums as sums;
+mod checksum;
+mod masking;
+mod tables;
+#[cfg(test)]
+mod tests;
 
-/// The stored form of a checksum.
-pub fn mask(c: u32) -> u32
-    ensures { result ≡ sums.mask c }
-{
-    c.rotate_right(15).wrapping_add(0xa282_ead8)
-}
+pub use checksum::crc32c;
+pub use masking::{mask, unmask};

@@ -1,0 +1,4 @@
+pub mod Linear
+pub mod Slices
+pub mod Turned
+pub mod Vectors
