@@ -2,3 +2,6 @@
 #![tactic(auto)]
 
 pub mod device;
+mod cuts;
+mod entry_line;
+mod lines;
