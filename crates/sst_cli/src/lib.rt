@@ -5,3 +5,5 @@ pub mod device;
 mod cuts;
 mod entry_line;
 mod lines;
+mod reading;
+mod refusal;
