@@ -1,6 +1,8 @@
 //! Blocks.
 #![tactic(auto)]
 
+mod laws;
 mod row_form;
 
+pub use laws::chosen_block_stands_for_its_rows;
 pub use row_form::RowForm;
