@@ -1,1 +1,5 @@
 pub mod BlockLaws
+pub mod Fronts
+pub mod Held
+pub mod Kept
+pub mod Steps

@@ -1,8 +1,10 @@
 //! Blocks.
 #![tactic(auto)]
 
+mod builder;
 mod laws;
 mod row_form;
 
+pub use builder::BlockBuilder;
 pub use laws::chosen_block_stands_for_its_rows;
 pub use row_form::RowForm;

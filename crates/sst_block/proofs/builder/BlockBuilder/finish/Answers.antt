@@ -1,0 +1,6 @@
+use Rattle.sst_block.proofs.Kept.{block_of-made}
+use Rattle.sst_block.proofs.builder.BlockBuilder.finish.Goals as goal
+
+pub returns-clause-exact : goal.returns-clause-exact
+returns-clause-exact c = λ form interval rows h.
+    block_of-made interval rows _ _ _ _ _ _ _ _ _ h.keeps c.deref.ensures.value c.in_ok-extend_from_slice.ensures.items c.in_ok-put_fixed32.ensures.ok c.from.ensures
