@@ -5,9 +5,10 @@ use Rattle.std.proofs.lemmas.List.Elements.{All-nil, All-push}
 use Rattle.sst_num.specs.Spelling.{fixed}
 use Rattle.sst_block.specs.declared.row_form.RowForm.{RowForm}
 use Rattle.sst_block.specs.declared.builder.BlockBuilder.{BlockBuilder}
-use Rattle.sst_block.specs.Block.{Row, Spelled, common, row_spelling, restarts_spelling, AreOrdered, IsRow}
+use Rattle.sst_block.specs.Block.{Row, Block, Spelled, common, row_spelling, restarts_spelling, AreOrdered, IsRow}
 use Rattle.sst_block.specs.Chosen.{restarts_of, block_of}
 use Rattle.sst_block.specs.Builder.{last_key, spelled_of, MayStand, Keeps, IsReady, Holds, AwaitsRow, Takes}
+use Rattle.sst_block.proofs.BlockLaws.{block_of_is_block}
 use Rattle.sst_block.proofs.Steps.{rows_spelling-more, length-restarts, value-le}
 use Rattle.sst_block.proofs.Kept.{Keeps-none, length-block, spelled-more, IsReady-room, IsReady-full, Keeps-more, same_block, same_order}
 
@@ -72,3 +73,8 @@ may_stand-more form f interval i rows others bytes restarts last count since row
       ordered = same_order form interval rows others bytes restarts last count since row may.least k l2 may.ordered ordered2;
       short = omega (arith, ap (λ (b : List ℕ). length b) (same_block interval rows others bytes restarts last count since row may.least k l2), short2);
     }
+
+-- the block of rows that may stand in one stands for them
+pub is_block : (form : RowForm) (interval : ℕ) (rows : List Row) (block : List ℕ) → MayStand form interval rows → block ≡ block_of interval rows → Block form block rows
+is_block form interval rows block may is =
+    rw is (block_of_is_block form interval rows (omega (arith, may.least)) may.forms may.ordered (omega (arith, may.short)))

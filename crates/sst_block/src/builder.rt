@@ -98,6 +98,8 @@ impl BlockBuilder {
     pub fn finish(self) -> Result<Bytes, Memory>
         ensures exact { IfOk result (λ b. (form : forms.RowForm) (interval : ℕ) (rows : List Row)
             → Holds self form interval rows → b ≡ block_of interval rows) }
+        ensures block { IfOk result (λ b. (form : forms.RowForm) (interval : ℕ) (rows : List Row)
+            → Holds self form interval rows → Block form b rows) }
         ensures later { HasFailed self → IsErr result }
     {
         if self.failed {
