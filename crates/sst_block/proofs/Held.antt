@@ -34,7 +34,7 @@ pub kept_short : (form : RowForm) (interval : ℕ) (rows : List Row) (bytes rest
 kept_short form interval rows bytes restarts last count since k may =
     let whole = length-block interval rows bytes restarts last count since k in
     let places : length restarts ≡ 4 * count =
-      ap (λ (l : List ℕ). length l) k.restarts_are ∙ length-restarts (restarts_of interval (spelled_of interval rows)) ∙ ap (λ n. 4 * n) (sym k.count_is) in
+    ap (λ (l : List ℕ). length l) k.restarts_are ∙ length-restarts (restarts_of interval (spelled_of interval rows)) ∙ ap (λ n. 4 * n) (sym k.count_is) in
     (omega (arith, whole, places, may.short), places)
 
 -- rows are no longer than their block

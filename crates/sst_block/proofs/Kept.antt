@@ -109,7 +109,7 @@ IsReady-room interval (r ∷ rows) bytes restarts last count since k room =
     let size = length-chosen interval 0 [] (r ∷ rows) in
     let still : length (spelled_of interval (r ∷ rows)) % interval ≢ 0 = λ zeroed. within (sym (ap (λ m. m % interval) size) ∙ zeroed) in
     let same = λ (row : Row). sym (ap (restarts_of interval) (spelled-as interval (r ∷ rows) row (common last row.key) (e row))
-      ∙ restarts_of-within interval (spelled_of interval (r ∷ rows)) (record { shared = common last row.key; row = row }) (omega (arith, size)) still) in
+    ∙ restarts_of-within interval (spelled_of interval (r ∷ rows)) (record { shared = common last row.key; row = row }) (omega (arith, size)) still) in
     record {
       bytes_are = k.bytes_are;
       spelled_are = λ row. spelled-as interval (r ∷ rows) row (common last row.key) (e row);
@@ -133,17 +133,17 @@ IsReady-full interval rows bytes restarts last count since least k full =
     let place : length (flat_map row_spelling (spelled_of interval rows)) ≡ length bytes = sym (ap (λ (l : List ℕ). length l) k.bytes_are) in
     let e = λ (row : Row). shared_restart (length rows) interval (last_key [] rows) row.key zeroed in
     let same = λ (row : Row). ap (restarts_of interval) (spelled-as interval rows row 0 (e row))
-      ∙ restarts_of-full interval (spelled_of interval rows) (record { shared = 0; row = row }) some still
-      ∙ ap (λ (n : ℕ). restarts_of interval (spelled_of interval rows) ++ n ∷ []) place in
+    ∙ restarts_of-full interval (spelled_of interval rows) (record { shared = 0; row = row }) some still
+    ∙ ap (λ (n : ℕ). restarts_of interval (spelled_of interval rows) ++ n ∷ []) place in
     record {
       bytes_are = k.bytes_are;
       spelled_are = λ row. spelled-as interval rows row 0 (e row);
       restarts_are = λ row. ap (λ (l : List ℕ). l ++ fixed 4 (length bytes)) k.restarts_are
-        ∙ sym (restarts_spelling-more (restarts_of interval (spelled_of interval rows)) (length bytes))
-        ∙ ap (λ (places : List ℕ). flat_map (fixed 4) places) (sym (same row));
+          ∙ sym (restarts_spelling-more (restarts_of interval (spelled_of interval rows)) (length bytes))
+          ∙ ap (λ (places : List ℕ). flat_map (fixed 4) places) (sym (same row));
       count_is = λ row. ap (λ (n : ℕ). n + 1) k.count_is
-        ∙ sym (length-append (restarts_of interval (spelled_of interval rows)) (length bytes ∷ []))
-        ∙ ap (λ (places : List ℕ). length places) (sym (same row));
+          ∙ sym (length-append (restarts_of interval (spelled_of interval rows)) (length bytes ∷ []))
+          ∙ ap (λ (places : List ℕ). length places) (sym (same row));
       counts = record { groups = k.counts.groups + 1; whole = omega (arith, k.counts.whole); within = omega arith };
       room = omega arith;
     }
@@ -162,9 +162,9 @@ pub Keeps-more : (interval : ℕ) (rows : List Row) (bytes restarts last : List 
     → Keeps interval (rows ++ row ∷ []) (bytes ++ row_spelling (record { shared = common last row.key; row = row })) restarts row.key count (since + 1)
 Keeps-more interval rows bytes restarts last count since row k = record {
   bytes_are =
-    ap (λ (l : List ℕ). l ++ row_spelling (record { shared = common last row.key; row = row })) k.bytes_are
-    ∙ sym (rows_spelling-more (spelled_of interval rows) (record { shared = common last row.key; row = row }))
-    ∙ ap (λ (l : List Spelled). flat_map row_spelling l) (sym (k.spelled_are row));
+      ap (λ (l : List ℕ). l ++ row_spelling (record { shared = common last row.key; row = row })) k.bytes_are
+      ∙ sym (rows_spelling-more (spelled_of interval rows) (record { shared = common last row.key; row = row }))
+      ∙ ap (λ (l : List Spelled). flat_map row_spelling l) (sym (k.spelled_are row));
   restarts_are = k.restarts_are row;
   last_is = sym (last_key-more [] rows row);
   count_is = k.count_is row;
@@ -187,11 +187,11 @@ pub same_block : (interval : ℕ) (rows others : List Row) (bytes restarts last 
 same_block interval rows others bytes restarts last count since row least k l =
     elim (cases_lt since interval) [
       | inl room ↦
-        block_of-kept interval _ _ _ _ _ _ (Keeps-more interval rows bytes restarts last count since row (IsReady-room interval rows bytes restarts last count since k room))
-        ∙ sym (block_of-kept interval _ _ _ _ _ _ (Keeps-more interval others bytes restarts last count since row (IsReady-room interval others bytes restarts last count since l room)))
+          block_of-kept interval _ _ _ _ _ _ (Keeps-more interval rows bytes restarts last count since row (IsReady-room interval rows bytes restarts last count since k room))
+          ∙ sym (block_of-kept interval _ _ _ _ _ _ (Keeps-more interval others bytes restarts last count since row (IsReady-room interval others bytes restarts last count since l room)))
       | inr full ↦
-        block_of-kept interval _ _ _ _ _ _ (Keeps-more interval rows bytes (restarts ++ fixed 4 (length bytes)) [] (count + 1) 0 row (IsReady-full interval rows bytes restarts last count since least k full))
-        ∙ sym (block_of-kept interval _ _ _ _ _ _ (Keeps-more interval others bytes (restarts ++ fixed 4 (length bytes)) [] (count + 1) 0 row (IsReady-full interval others bytes restarts last count since least l full)))
+          block_of-kept interval _ _ _ _ _ _ (Keeps-more interval rows bytes (restarts ++ fixed 4 (length bytes)) [] (count + 1) 0 row (IsReady-full interval rows bytes restarts last count since least k full))
+          ∙ sym (block_of-kept interval _ _ _ _ _ _ (Keeps-more interval others bytes (restarts ++ fixed 4 (length bytes)) [] (count + 1) 0 row (IsReady-full interval others bytes restarts last count since least l full)))
     ]
 
 -- and their orders go on alike

@@ -2,4 +2,5 @@ pub mod BlockLaws
 pub mod Fronts
 pub mod Held
 pub mod Kept
+pub mod Size
 pub mod Steps

@@ -28,7 +28,7 @@ last_key-more before (r ∷ rows) row = last_key-more r.key rows row
 -- the row with the number n is spelled after the others
 pub chosen-more : (interval i : ℕ) (before : List ℕ) (rows : List Row) (row : Row) (n : ℕ) → n ≡ i + length rows
     → chosen interval i before (rows ++ row ∷ [])
-      ≡ chosen interval i before rows ++ record { shared = if n % interval == 0 then 0 else common (last_key before rows) row.key; row = row } ∷ []
+    ≡ chosen interval i before rows ++ record { shared = if n % interval == 0 then 0 else common (last_key before rows) row.key; row = row } ∷ []
 chosen-more interval i before [] row n e =
     let here : n ≡ i = omega arith in rw here refl
 chosen-more interval i before (r ∷ rows) row n e =

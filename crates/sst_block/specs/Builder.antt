@@ -22,6 +22,10 @@ abbrev pub last_key : List ℕ → List Row → List ℕ
 last_key before [] = before
 last_key before (row ∷ rows) = last_key row.key rows
 
+-- the most that a row takes of a block: its key and value, three lengths and a restart
+abbrev pub row_room : Row → ℕ
+row_room row = length row.key + length row.value + 34
+
 -- the rows as a builder spells them
 abbrev pub spelled_of : ℕ → List Row → List Spelled
 spelled_of interval rows = chosen interval 0 [] rows
