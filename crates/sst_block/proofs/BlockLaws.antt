@@ -56,7 +56,6 @@ restarts-rise : (interval i at : ℕ) (spelled : List Spelled) → IsStrictlyInc
 restarts-rise interval i at [] = λ k within. absurd (omega arith)
 restarts-rise interval i at (s ∷ rest) =
     let some = row_spelling-some s in
-    let next = at + length (row_spelling s) in
     rises-one_if (i % interval == 0) at (restarts_from interval (i + 1) (at + length (row_spelling s)) rest)
     (restarts-above interval (i + 1) (at + length (row_spelling s)) at rest (omega arith))
     (restarts-rise interval (i + 1) (at + length (row_spelling s)) rest)
@@ -89,6 +88,7 @@ chosen-restarts interval (row ∷ rows) h =
     let first = zero-mod interval in
     (rw first refl, restarts-rise interval 0 0 (chosen interval 0 [] (row ∷ rows)), restarts-fresh interval 0 0 [] (row ∷ rows))
 
+-- each part of what a block is, of the block that is chosen
 pub block_of_is_block : (form : RowForm) (interval : ℕ) (rows : List Row) → 0 < interval → All (IsRow form) rows → AreOrdered form rows → length (block_of interval rows) ≤ 2 ^ 29 → Block form (block_of interval rows) rows
 unfolding block_of
 block_of_is_block form interval rows positive forms ordered short =

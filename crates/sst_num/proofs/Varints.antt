@@ -14,6 +14,7 @@ IsVarint-more b high v (c ∷ bytes) spells low top some sum = (low, top, (high,
 rest-fits : (n v : ℕ) → v < 128 ^ suc (suc n) → v / 128 < 128 ^ suc n
 rest-fits n v h = let size = pow-suc 128 (suc n) in omega (arith, size)
 
+-- the groups of a number spell it
 pub groups-spell : (n v : ℕ) → v < 128 ^ suc n → IsVarint (groups n v) v
 groups-spell zero v h = (omega arith, refl)
 groups-spell (suc n) v h =
@@ -25,6 +26,7 @@ groups-spell (suc n) v h =
           (IsVarint-more (v % 128 + 128) (v / 128) v (groups n (v / 128)) (groups-spell n (v / 128) fits) (omega arith) (omega arith) (omega arith) (omega arith))
     ]
 
+-- there are no more groups than asked for
 pub length-groups : (n v : ℕ) → length (groups n v) ≤ suc n
 length-groups zero v = omega arith
 length-groups (suc n) v =
@@ -33,6 +35,7 @@ length-groups (suc n) v =
       | false ↦ omega (arith, length-groups n (v / 128))
     ]
 
+-- nothing else spells it
 pub groups-only : (n v : ℕ) (bytes : List ℕ) → v < 128 ^ suc n → IsVarint bytes v → bytes ≡ groups n v
 groups-only n v [] h spells = absurd spells
 groups-only n v (b ∷ []) h spells =
@@ -40,7 +43,6 @@ groups-only n v (b ∷ []) h spells =
     rw (groups-small n v small) (ap (λ (x : ℕ). x ∷ []) (sym spells.1))
 groups-only zero v (b ∷ c ∷ bytes) h spells = absurd (omega (arith, spells.0, spells.2.1, spells.2.2))
 groups-only (suc n) v (b ∷ c ∷ bytes) h spells =
-    let high = spells.2.0 in
     let sum : v + 128 ≡ b + 128 * spells.2.0 = spells.2.2 in
     let large : 128 ≤ v = omega (arith, spells.0, spells.2.1, sum) in
     let low : v % 128 + 128 ≡ b = omega (arith, spells.0, spells.1, sum) in

@@ -8,7 +8,9 @@ pub fn varint_is_the_spelling()
     ensures { (v : ℕ) → v < 2 ^ 64 → IsVarint (varint v) v × (length (varint v) ≤ 10) }
 {}
 
-/// A number below 2^64 has no other spelling, so none is shorter.
+/// A number below 2^64 has no other spelling than the one written, so none is shorter.
+///
+/// A last byte of 0 behind others isn't one: it would say nothing.
 ///
 /// RocksDB: `EncodeVarint64` in util/coding.h.
 pub fn varint_is_the_only_spelling()
@@ -24,7 +26,7 @@ pub fn no_varint_begins_another()
 
 /// A number that fits n bytes is read back from them.
 ///
-/// RocksDB: `EncodeFixed64` and `DecodeFixed64` in util/coding.h and util/coding_lean.h.
+/// RocksDB: `EncodeFixed64` and `DecodeFixed64` in util/coding_lean.h.
 pub fn fixed_reads_back()
     ensures { (n v : ℕ) → v < 256 ^ n → fixed_value (fixed n v) ≡ v }
 {}
