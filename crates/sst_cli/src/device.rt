@@ -1,3 +1,4 @@
 //! The outside.
 pub mod folder;
+pub mod put_all;
 pub mod stream;
