@@ -1,4 +1,5 @@
 //! The outside.
 pub mod folder;
+pub mod memory;
 pub mod put_all;
 pub mod stream;
