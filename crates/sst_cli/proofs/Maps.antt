@@ -34,23 +34,20 @@ cond_same true x y same = sym (same refl)
 cond_same false x y same = refl
 
 module _ {V : Type 0} where
-  abbrev Map : Type 0
-  Map = FinMap (slice_cmp nat_cmp) V
-
   -- a value put after another at one name
-  pub insert-insert : (m : Map) (k : List ℕ) (v w : V) → insert (insert m k v) k w ≡ insert m k w
+  pub insert-insert : (m : FinMap (slice_cmp nat_cmp) V) (k : List ℕ) (v w : V) → insert (insert m k v) k w ≡ insert m k w
   insert-insert m k v w = same_map nat_list_cmp_total name_cmp_same _ _ (λ q.
       get-insert nat_list_cmp_total (insert m k v) k w q ∙ ap (cond (eq_by_cmp (slice_cmp nat_cmp) q k) (Some w)) (get-insert nat_list_cmp_total m k v q)
       ∙ cond_twice (eq_by_cmp (slice_cmp nat_cmp) q k) (Some w) (Some v) (get m q) ∙ sym (get-insert nat_list_cmp_total m k w q))
 
   -- values put at two names, in either order
-  pub insert-swap : (m : Map) (k l : List ℕ) (v w : V) → (k ≡ l → ⊥) → insert (insert m k v) l w ≡ insert (insert m l w) k v
+  pub insert-swap : (m : FinMap (slice_cmp nat_cmp) V) (k l : List ℕ) (v w : V) → (k ≡ l → ⊥) → insert (insert m k v) l w ≡ insert (insert m l w) k v
   insert-swap m k l v w apart = same_map nat_list_cmp_total name_cmp_same _ _ (λ q.
       get-insert nat_list_cmp_total (insert m k v) l w q ∙ ap (cond (eq_by_cmp (slice_cmp nat_cmp) q l) (Some w)) (get-insert nat_list_cmp_total m k v q)
       ∙ cond_swap (eq_by_cmp (slice_cmp nat_cmp) q l) (eq_by_cmp (slice_cmp nat_cmp) q k) (Some w) (Some v) (get m q) (λ at_l at_k. apart (sym (same_name q k at_k) ∙ same_name q l at_l))
       ∙ sym (get-insert nat_list_cmp_total (insert m l w) k v q ∙ ap (cond (eq_by_cmp (slice_cmp nat_cmp) q k) (Some v)) (get-insert nat_list_cmp_total m l w q)))
 
   -- the value that is there put again
-  pub insert-same : (m : Map) (k : List ℕ) (v : V) → get m k ≡ Some v → insert m k v ≡ m
+  pub insert-same : (m : FinMap (slice_cmp nat_cmp) V) (k : List ℕ) (v : V) → get m k ≡ Some v → insert m k v ≡ m
   insert-same m k v here = same_map nat_list_cmp_total name_cmp_same _ _ (λ q.
       get-insert nat_list_cmp_total m k v q ∙ cond_same (eq_by_cmp (slice_cmp nat_cmp) q k) (Some v) (get m q) (λ at. ap (get m) (same_name q k at) ∙ here))
