@@ -1,19 +1,6 @@
-//! Folders and streams in memory, for tests.
+//! Folders and streams in memory, for tests: they tell what they hold, and fail where they are told to.
 mod files;
+mod folder;
 mod plan;
 
-/// Memory ran out.
-#[derive(Clone, Copy, Debug, PartialEq, Eq)]
-pub struct Memory;
-
-impl From<std::alloc::AllocError> for Memory {
-    fn from(_error: std::alloc::AllocError) -> Memory {
-        Memory
-    }
-}
-
-impl<T: Drop> From<std::alloc::AllocFailed<T>> for Memory {
-    fn from(_error: std::alloc::AllocFailed<T>) -> Memory {
-        Memory
-    }
-}
+pub use folder::MemFolder;

@@ -5,7 +5,7 @@ ghost use Rattle.sst_cli.specs.Faults.{Rose, counted};
 
 use std::alloc::Global;
 
-use crate::device::memory::Memory;
+use sst_num::Memory;
 
 /// The calls that are to fail, and counts of the calls and of the faults so far. Both counts stand still at the
 /// end of a `u64`.
