@@ -1,17 +1,18 @@
 -- What a look-up and a change in a list of files are to the folder that the list stands for.
-use Rattle.std.proofs.Common.{◌≡◌, ℕ, zero, suc, ◌+◌, ◌<◌, List, [], ◌∷◌, ◌++◌, Bool, true, false, cond, Option, None, Some, refl, sym, ap, ◌∙◌, subst, arith, length, get_or, set, map, position, nat_eq, nat_lt, ◌≤◌, IsTrue}
-use Rattle.std.proofs.lemmas.Bool.{le-ltb}
+use Rattle.std.proofs.Common.{◌≡◌, ℕ, zero, suc, ◌+◌, ◌<◌, List, [], ◌∷◌, ◌++◌, Bool, true, false, cond, Option, None, Some, refl, sym, ap, ◌∙◌, subst, arith, length, get_or, set, take, drop, map, position, nat_eq, nat_lt, ◌≤◌, IsTrue}
+use Rattle.std.proofs.lemmas.Bool.{le-ltb, lt-ltb}
 use Rattle.std.specs.List.{position_from}
 use Rattle.std.specs.Ordering.{nat_cmp, eq_by_cmp}
 use Rattle.std.specs.Cmp.Lexicographic.{slice_cmp, pointwise, nat_list_cmp_total, texts_ties}
 use Rattle.std.proofs.lemmas.Cmp.{eq_by_cmp_equiv}
 use Rattle.std.specs.String.{string_bytes}
 use Rattle.std.specs.FinMap.{get, insert, find, get-insert, get-empty, from_entries, from_entries_push, get-from_entries}
+use Rattle.std.proofs.lemmas.List.{map-append, take-append-drop}
 use Rattle.std.proofs.lemmas.List.Quantifiers.{position-Some}
 use Rattle.std.proofs.lemmas.Iterator.Adapters.{position_from-zero}
 use Rattle.sst_cli.specs.declared.device.memory.files.MemFile.{MemFile}
 use Rattle.sst_cli.specs.MemFiles.{entry_of, files_of, is_named}
-use Rattle.sst_cli.specs.Folder.{Files, edit_file, changed_file, misses, ends_before}
+use Rattle.sst_cli.specs.Folder.{Files, written_over, edit_file, changed_file, misses, ends_before}
 use Rattle.sst_cli.proofs.Maps.{name_cmp_same, same_name, insert-insert, insert-swap, insert-same}
 
 -- the name of a file that is named so
@@ -81,41 +82,59 @@ named_at : (name : List ℕ) (files : List MemFile) (i : ℕ) (any file : MemFil
     → string_bytes file.name ≡ name
 named_at name files i any file f same = same ∙ sym (named_so name (get_or files i any) f.here)
 
--- the bytes of a name that the file at `i` is the first to have
-pub get-found : (name : List ℕ) (files : List MemFile) (i : ℕ) (any : MemFile) → position (is_named name) files ≡ Some i
-    → get (files_of files) name ≡ Some (get_or files i any).bytes.items
-get-found name files i any e = get-at name files i any (first name files i any e)
+-- where a look-up in the list found a file: at `i`, the first of this name
+pub record FoundAt (name : List ℕ) (files : List MemFile) (i : ℕ) (file : MemFile) : Type 0 where
+  pub found : position (is_named name) files ≡ Some i
+  pub is : file ≡ get_or files i file
+
+pub found_at : (name : List ℕ) (looked files : List MemFile) (i : ℕ) (file : MemFile) → Some i ≡ position (is_named name) looked → looked ≡ files
+    → file ≡ get_or files i file → FoundAt name files i file
+found_at name looked files i file found same is = record { found = sym (found ∙ ap (position (is_named name)) same); is = is; }
+
+pub get-found : (name : List ℕ) (files : List MemFile) (i : ℕ) (file : MemFile) → FoundAt name files i file → get (files_of files) name ≡ Some file.bytes.items
+get-found name files i file f = get-at name files i file (first name files i file f.found) ∙ ap (λ g. Some g.bytes.items) (sym f.is)
 
 -- the file found is put in anew, under its name, with other bytes
-pub set-found : (name : List ℕ) (files : List MemFile) (i : ℕ) (any file : MemFile) → position (is_named name) files ≡ Some i
-    → string_bytes file.name ≡ string_bytes (get_or files i any).name → files_of (set files i file) ≡ insert (files_of files) name file.bytes.items
-set-found name files i any file e same = let f = first name files i any e in set-at name files i any file f (named_at name files i any file f same)
-
--- the same with the bytes that it has
-pub set-kept : (name : List ℕ) (files : List MemFile) (i : ℕ) (any file : MemFile) → position (is_named name) files ≡ Some i
-    → string_bytes file.name ≡ string_bytes (get_or files i any).name → file.bytes.items ≡ (get_or files i any).bytes.items → files_of (set files i file) ≡ files_of files
-set-kept name files i any file e same kept =
-    set-found name files i any file e same ∙ insert-same (files_of files) name file.bytes.items (get-found name files i any e ∙ ap Some (sym kept))
+pub set-found : (name : List ℕ) (files : List MemFile) (i : ℕ) (old new : MemFile) → FoundAt name files i old → string_bytes new.name ≡ string_bytes old.name
+    → files_of (set files i new) ≡ insert (files_of files) name new.bytes.items
+set-found name files i old new f same =
+    let at = first name files i old f.found in
+    set-at name files i old new at (named_at name files i old new at (same ∙ ap (λ g. string_bytes g.name) f.is))
 
 -- the file found is put in anew with its bytes changed
-pub edit-found : (name : List ℕ) (files : List MemFile) (i : ℕ) (any file : MemFile) (change : List ℕ → List ℕ) → position (is_named name) files ≡ Some i
-    → string_bytes file.name ≡ string_bytes (get_or files i any).name → file.bytes.items ≡ change (get_or files i any).bytes.items
-    → Some (files_of (set files i file)) ≡ edit_file (Some (files_of files)) name change
-edit-found name files i any file change e same changed =
-    ap Some (set-found name files i any file e same ∙ ap (insert (files_of files) name) changed)
-    ∙ ap (λ found. Some (changed_file (files_of files) name change found)) (sym (get-found name files i any e))
+pub edit-found : (name : List ℕ) (files : List MemFile) (i : ℕ) (old new : MemFile) (change : List ℕ → List ℕ) → FoundAt name files i old
+    → string_bytes new.name ≡ string_bytes old.name → new.bytes.items ≡ change old.bytes.items
+    → Some (files_of (set files i new)) ≡ edit_file (Some (files_of files)) name change
+edit-found name files i old new change f same changed =
+    ap Some (set-found name files i old new f same ∙ ap (insert (files_of files) name) changed)
+    ∙ ap (λ found. Some (changed_file (files_of files) name change found)) (sym (get-found name files i old f))
 
--- an absent name misses, and a name found misses where the bytes end too soon
-pub misses-absent : (name : List ℕ) (files : List MemFile) (end : ℕ) → position (is_named name) files ≡ None → misses (Some (files_of files)) name end ≡ true
-misses-absent name files end e = ap (λ found. ends_before found end) (get-absent name files e)
+-- a file of a new name
+pub push-absent : (name : List ℕ) (files : List MemFile) (file : MemFile) → position (is_named name) files ≡ None → string_bytes file.name ≡ name
+    → files_of (files ++ file ∷ []) ≡ insert (files_of files) name file.bytes.items
+push-absent name files file none same =
+    ap from_entries (map-append entry_of files (file ∷ [])) ∙ ap (λ n. from_entries (map entry_of files ++ (n, file.bytes.items) ∷ [])) same
+    ∙ from_entries_push nat_list_cmp_total name_cmp_same (map entry_of files) name file.bytes.items
+        (sym (get-from_entries nat_list_cmp_total (map entry_of files) name) ∙ get-absent name files none)
 
-pub misses-found : (name : List ℕ) (files : List MemFile) (i : ℕ) (any : MemFile) (end : ℕ) → position (is_named name) files ≡ Some i
-    → misses (Some (files_of files)) name end ≡ nat_lt (length (get_or files i any).bytes.items) end
-misses-found name files i any end e = ap (λ found. ends_before found end) (get-found name files i any e)
+-- an edit that writes nothing leaves the folder as it was
+pub edit-none : (name : List ℕ) (held : Files) (change : List ℕ → List ℕ) → ((bytes : List ℕ) → change bytes ≡ bytes) → Some held ≡ edit_file (Some held) name change
+edit-none name held change none =
+    elim (get held name) as (λ found. get held name ≡ found → Some held ≡ Some (changed_file held name change found)) [
+      | None ↦ λ is. refl
+      | Some bytes ↦ λ is. ap Some (sym (ap (insert held name) (none bytes) ∙ insert-same held name bytes is))
+    ] refl
 
--- a name found doesn't miss where its bytes reach as far
-pub no-miss : (name : List ℕ) (files : List MemFile) (i : ℕ) (any : MemFile) (end : ℕ) → position (is_named name) files ≡ Some i
-    → end ≤ length (get_or files i any).bytes.items → IsTrue (misses (Some (files_of files)) name end) → ⊥
-no-miss name files i any end e reaches missed =
-    let found = misses-found name files i any end e ∙ le-ltb (length (get_or files i any).bytes.items) end reaches in
-    absurd cc
+-- what a look-up found ends too soon, or reaches as far
+pub ends-absent : (found : Option (List ℕ)) (end : ℕ) → found ≡ None → IsTrue (ends_before found end)
+ends-absent found end e = ap (λ f. ends_before f end) e
+
+pub ends-short : (found : Option (List ℕ)) (bytes : List ℕ) (end : ℕ) → found ≡ Some bytes → length bytes < end → IsTrue (ends_before found end)
+ends-short found bytes end e short = ap (λ f. ends_before f end) e ∙ lt-ltb (length bytes) end short
+
+pub ends-far : (found : Option (List ℕ)) (bytes : List ℕ) (end : ℕ) → found ≡ Some bytes → end ≤ length bytes → IsTrue (ends_before found end) → ⊥
+ends-far found bytes end e reaches missed = let found = ap (λ f. ends_before f end) e ∙ le-ltb (length bytes) end reaches in absurd cc
+
+-- nothing written over bytes leaves them
+pub written_over-nil : (at : ℕ) (bytes : List ℕ) → written_over at [] bytes ≡ bytes
+written_over-nil at bytes = let e : at + 0 ≡ at = omega arith in ap (λ n. take at bytes ++ drop n bytes) e ∙ take-append-drop at bytes

@@ -1,5 +1,5 @@
 //! The files of a folder in memory.
-ghost use Rattle.std.specs.Prelude.{◌≡◌, ℕ, ◌+◌, ◌<◌, ◌≤◌, List, ◌++◌, position, length, take, slice_range, Some, None, MatchOption, IsTrue, IsErr, OnOk, OnErr};
+ghost use Rattle.std.specs.Prelude.{◌≡◌, ℕ, ◌+◌, ◌<◌, ◌≤◌, List, ◌++◌, position, length, take, slice_range, IfSome, Some, None, MatchOption, IsTrue, IsErr, OnOk, OnErr};
 ghost use Rattle.std.specs.FinMap.{get, insert};
 ghost use Rattle.sst_cli.specs.Folder.{edit_file, misses, written_over};
 ghost use Rattle.sst_cli.specs.MemFiles.{files_of, is_named};
@@ -56,17 +56,24 @@ pub(crate) fn put(
     Ok(())
 }
 
-/// Appends the piece to the named file.
-pub(crate) fn append(files: &mut [MemFile], name: &str, piece: &[u8]) -> Result<(), DevStop>
-    ensures added { OnOk result (Some (files_of files.new)
-        ≡ edit_file (Some (files_of files.old)) name.now (λ bytes. bytes ++ piece.now)) }
-    ensures same { OnErr result (files_of files.new ≡ files_of files.old) }
-    ensures miss { IsTrue (misses (Some (files_of files.old)) name.now 0) → IsErr result }
-    ensures failed { result ≡ Err DevStop.Failed → IsTrue (misses (Some (files_of files.old)) name.now 0) }
+/// Appends the first `count` bytes of the piece to the named file. Where memory runs out the file stays.
+pub(crate) fn append(
+    files: &mut Vec<MemFile>,
+    name: &str,
+    piece: &[u8],
+    count: usize,
+) -> Result<(), DevStop>
+    requires { count ≤ length piece.now }
+    ensures added { OnOk result (Some (files_of files.new.items)
+        ≡ edit_file (Some (files_of files.old.items)) name.now (λ bytes. bytes ++ take count piece.now)) }
+    ensures some { (n : ℕ) × (Some (files_of files.new.items)
+        ≡ edit_file (Some (files_of files.old.items)) name.now (λ bytes. bytes ++ take n piece.now)) }
+    ensures miss { IsTrue (misses (Some (files_of files.old.items)) name.now 0) → IsErr result }
+    ensures failed { result ≡ Err DevStop.Failed → IsTrue (misses (Some (files_of files.old.items)) name.now 0) }
 {
     match place(files, name) {
         None => Err(DevStop::Failed),
-        Some(i) => match files[i].bytes.extend_from_slice(piece) {
+        Some(i) => match files[i].bytes.extend_from_slice(piece.split_at(count).0) {
             Ok(()) => Ok(()),
             Err(_) => Err(DevStop::Memory),
         },
@@ -93,18 +100,19 @@ pub(crate) fn copy_over(bytes: &mut [u8], start: usize, piece: &[u8])
 /// Writes the first `count` bytes of the piece over those of the named file from `at` on, where the file has
 /// room for the whole piece there.
 pub(crate) fn write_over(
-    files: &mut [MemFile],
+    files: &mut Vec<MemFile>,
     name: &str,
     at: u64,
     piece: &[u8],
     count: usize,
 ) -> Result<(), DevStop>
     requires { count ≤ length piece.now }
-    ensures patched { OnOk result (Some (files_of files.new)
-        ≡ edit_file (Some (files_of files.old)) name.now (written_over at (take count piece.now))) }
-    ensures same { OnErr result (files_of files.new ≡ files_of files.old) }
-    ensures miss { IsTrue (misses (Some (files_of files.old)) name.now (at + length piece.now)) → IsErr result }
-    ensures failed { OnErr result (IsTrue (misses (Some (files_of files.old)) name.now (at + length piece.now))) }
+    ensures patched { OnOk result (Some (files_of files.new.items)
+        ≡ edit_file (Some (files_of files.old.items)) name.now (written_over at (take count piece.now))) }
+    ensures some { (n : ℕ) × (Some (files_of files.new.items)
+        ≡ edit_file (Some (files_of files.old.items)) name.now (written_over at (take n piece.now))) }
+    ensures miss { IsTrue (misses (Some (files_of files.old.items)) name.now (at + length piece.now)) → IsErr result }
+    ensures failed { OnErr result (IsTrue (misses (Some (files_of files.old.items)) name.now (at + length piece.now))) }
 {
     match place(files, name) {
         None => Err(DevStop::Failed),
@@ -118,6 +126,15 @@ pub(crate) fn write_over(
     }
 }
 
+/// Fills the buffer with the bytes from `start` on.
+pub(crate) fn copy_from(bytes: &[u8], start: usize, buf: &mut [u8])
+    requires { start + length buf.old ≤ length bytes.now }
+    ensures { buf.new ≡ slice_range bytes.now start (start + length buf.old) }
+{
+    let end = start + buf.len();
+    buf.copy_from_slice(&bytes[start..end]);
+}
+
 /// Fills the buffer with the bytes of the named file from `at` on.
 pub(crate) fn read(
     files: &[MemFile],
@@ -125,19 +142,17 @@ pub(crate) fn read(
     at: u64,
     buf: &mut [u8],
 ) -> Result<(), DevStop>
-    ensures filled { OnOk result ((bytes : List ℕ) × (get (files_of files.now) name.now ≡ Some bytes)
-        × (buf.new ≡ slice_range bytes at (at + length buf.old))) }
+    ensures filled { OnOk result (IfSome (get (files_of files.now) name.now)
+        (λ bytes. buf.new ≡ slice_range bytes at (at + length buf.old))) }
     ensures miss { IsTrue (misses (Some (files_of files.now)) name.now (at + length buf.old)) → IsErr result }
     ensures failed { OnErr result (IsTrue (misses (Some (files_of files.now)) name.now (at + length buf.old))) }
 {
-    match place(files, name) {
+    match bytes_of(files, name) {
         None => Err(DevStop::Failed),
-        Some(i) => match range_start(files[i].bytes.len(), at, buf.len()) {
+        Some(bytes) => match range_start(bytes.len(), at, buf.len()) {
             None => Err(DevStop::Failed),
             Some(start) => {
-                let (_, rest) = files[i].bytes.split_at(start);
-                let (part, _) = rest.split_at(buf.len());
-                buf.copy_from_slice(part);
+                copy_from(bytes, start, buf);
                 Ok(())
             }
         },

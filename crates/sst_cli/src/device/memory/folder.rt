@@ -1,5 +1,5 @@
 //! A folder in memory.
-ghost use Rattle.std.specs.Prelude.{◌≡◌, ℕ, ◌+◌, [], ◌++◌, length, take, Some, None, IfOk, OnOk, OnErr, MatchOption};
+ghost use Rattle.std.specs.Prelude.{◌≡◌, ℕ, ◌+◌, [], ◌++◌, length, take, min, ◌≤◌, Some, None, IfOk, OnOk, OnErr, MatchOption};
 ghost use Rattle.std.specs.FinMap.{empty};
 ghost use Rattle.sst_cli.specs.Faults.{counted};
 ghost use Rattle.sst_cli.specs.Folder.{file_of, put_file};
@@ -75,11 +75,19 @@ impl MemFolder {
     }
 }
 
-/// The part of a piece that a failing call still writes.
-fn written_in_failure(piece: &[u8]) -> &[u8]
-    ensures { result.now ≡ take 3 piece.now }
+/// How many bytes of a piece of this length a failing call still writes.
+fn written_in_failure(piece: usize) -> usize
+    ensures { result ≡ min 3 piece }
 {
-    piece.split_at(piece.len().min(WRITTEN_IN_FAILURE)).0
+    piece.min(WRITTEN_IN_FAILURE)
+}
+
+/// The count with `more` added, at most the last value of a `u64`.
+fn count_on(count: u64, more: usize) -> u64
+    ensures sum { result ≡ counted count more }
+    ensures rises { count ≤ result }
+{
+    count.saturating_add(more as u64)
 }
 
 impl Folder for MemFolder {
@@ -104,7 +112,7 @@ impl Folder for MemFolder {
             return Err(DevStop::Failed);
         }
         files::read(&self.files, name, at, buf)?;
-        self.drawn_bytes = self.drawn_bytes.saturating_add(buf.len() as u64);
+        self.drawn_bytes = count_on(self.drawn_bytes, buf.len());
         Ok(())
     }
 
@@ -120,15 +128,16 @@ impl Folder for MemFolder {
 
     fn add(&mut self, name: &str, piece: &[u8]) -> Result<(), DevStop> {
         if self.plan.fails() {
-            let _ = files::append(&mut self.files, name, written_in_failure(piece));
+            let count = written_in_failure(piece.len());
+            let _ = files::append(&mut self.files, name, piece, count);
             return Err(DevStop::Failed);
         }
-        files::append(&mut self.files, name, piece)
+        files::append(&mut self.files, name, piece, piece.len())
     }
 
     fn patch(&mut self, name: &str, at: u64, piece: &[u8]) -> Result<(), DevStop> {
         if self.plan.fails() {
-            let count = piece.len().min(WRITTEN_IN_FAILURE);
+            let count = written_in_failure(piece.len());
             let _ = files::write_over(&mut self.files, name, at, piece, count);
             return Err(DevStop::Failed);
         }

@@ -1,5 +1,5 @@
 //! Which calls of an object in memory fail.
-ghost use Rattle.std.specs.Prelude.{◌≡◌, ◌≤◌, IfOk, eqb, if◌then◌else◌};
+ghost use Rattle.std.specs.Prelude.{◌≡◌, ◌≤◌, IfOk, eqb, true, if◌then◌else◌};
 ghost use Rattle.std.specs.List.{list_any};
 ghost use Rattle.sst_cli.specs.Faults.{Rose, counted};
 
@@ -33,7 +33,9 @@ impl FailPlan {
         ensures same_list { self.new.fail_at.items ≡ self.old.fail_at.items }
         ensures numbered { self.new.calls ≡ counted self.old.calls 1 }
         ensures listed { result ≡ list_any (λ number. eqb self.new.calls number) self.old.fail_at.items }
-        ensures faulted { self.new.faults ≡ (if result then counted self.old.faults 1 else self.old.faults) }
+        ensures rose { result ≡ true → Rose self.old.faults self.new.faults }
+    ensures counts { self.old.faults ≤ self.new.faults }
+    ensures faulted { self.new.faults ≡ (if result then counted self.old.faults 1 else self.old.faults) }
     {
         self.calls = self.calls.saturating_add(1);
         let number = self.calls;
