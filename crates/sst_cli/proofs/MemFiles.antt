@@ -138,3 +138,7 @@ ends-far found bytes end e reaches missed = let found = ap (λ f. ends_before f 
 -- nothing written over bytes leaves them
 pub written_over-nil : (at : ℕ) (bytes : List ℕ) → written_over at [] bytes ≡ bytes
 written_over-nil at bytes = let e : at + 0 ≡ at = omega arith in ap (λ n. take at bytes ++ drop n bytes) e ∙ take-append-drop at bytes
+
+pub same_written : (at start : ℕ) (piece part bytes known : List ℕ) → start ≡ at → part ≡ piece → known ≡ bytes → written_over start part known ≡ written_over at piece bytes
+same_written at start piece part bytes known e f g =
+    ap (λ n. written_over n part known) e ∙ ap (λ l. written_over at l known) f ∙ ap (written_over at piece) g
