@@ -8,6 +8,7 @@ use Rattle.std.proofs.lemmas.Cmp.{eq_by_cmp_equiv}
 use Rattle.std.specs.String.{string_bytes}
 use Rattle.std.specs.FinMap.{get, insert, find, get-insert, get-empty, from_entries, from_entries_push, get-from_entries}
 use Rattle.std.proofs.lemmas.List.{map-append, take-append-drop}
+use Rattle.std.proofs.Math.Seq.{take-append_seam}
 use Rattle.std.proofs.lemmas.List.Quantifiers.{position-Some}
 use Rattle.std.proofs.lemmas.Iterator.Adapters.{position_from-zero}
 use Rattle.sst_cli.specs.declared.device.memory.files.MemFile.{MemFile}
@@ -142,3 +143,8 @@ written_over-nil at bytes = let e : at + 0 ≡ at = omega arith in ap (λ n. tak
 pub same_written : (at start : ℕ) (piece part bytes known : List ℕ) → start ≡ at → part ≡ piece → known ≡ bytes → written_over start part known ≡ written_over at piece bytes
 same_written at start piece part bytes known e f g =
     ap (λ n. written_over n part known) e ∙ ap (λ l. written_over at l known) f ∙ ap (written_over at piece) g
+
+-- a vector of `len` elements after as many were written over all of its elements
+pub refilled : (len : ℕ) (written old : List ℕ) → len ≡ length old → length written ≡ length old → take len (written ++ drop (length written) old) ≡ written
+refilled len written old of_old of_new =
+    ap (λ n. take n (written ++ drop (length written) old)) (of_old ∙ sym of_new) ∙ take-append_seam written (drop (length written) old)

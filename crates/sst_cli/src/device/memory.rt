@@ -2,5 +2,7 @@
 mod files;
 mod folder;
 mod plan;
+mod streams;
 
 pub use folder::MemFolder;
+pub use streams::{MemIntake, MemSink};

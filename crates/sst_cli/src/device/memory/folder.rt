@@ -108,11 +108,12 @@ impl Folder for MemFolder {
     }
 
     fn read_at(&mut self, name: &str, at: u64, buf: &mut [u8]) -> Result<(), DevStop> {
+        let drawn = count_on(self.drawn_bytes, buf.len());
         if self.plan.fails() {
             return Err(DevStop::Failed);
         }
         files::read(&self.files, name, at, buf)?;
-        self.drawn_bytes = count_on(self.drawn_bytes, buf.len());
+        self.drawn_bytes = drawn;
         Ok(())
     }
 
