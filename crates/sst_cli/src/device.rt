@@ -1,5 +1,6 @@
 //! The outside.
 pub mod folder;
+pub mod frame;
 pub mod memory;
 pub mod put_all;
 pub mod stream;
