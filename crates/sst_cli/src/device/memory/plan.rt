@@ -7,6 +7,8 @@ use std::alloc::Global;
 
 use sst_num::Memory;
 
+use crate::device::faults::raise;
+
 /// The calls that are to fail, and counts of the calls and of the faults so far. Both counts stand still at the
 /// end of a `u64`.
 #[derive(Debug, Drop)]
@@ -41,7 +43,7 @@ impl FailPlan {
         let number = self.calls;
         let fails = self.fail_at.contains(&number);
         if fails {
-            self.faults = self.faults.saturating_add(1);
+            self.faults = raise(self.faults);
         }
         fails
     }
