@@ -1,5 +1,5 @@
 //! The outside.
-mod faults;
+mod counts;
 pub mod folder;
 pub mod frame;
 pub mod memory;

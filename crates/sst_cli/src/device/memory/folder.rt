@@ -1,7 +1,6 @@
 //! A folder in memory.
-ghost use Rattle.std.specs.Prelude.{◌≡◌, ℕ, ◌+◌, [], ◌++◌, length, take, min, ◌≤◌, Some, None, IfOk, OnOk, OnErr, MatchOption};
+ghost use Rattle.std.specs.Prelude.{◌≡◌, ℕ, ◌+◌, [], ◌++◌, length, take, min, Some, None, IfOk, OnOk, OnErr, MatchOption};
 ghost use Rattle.std.specs.FinMap.{empty};
-ghost use Rattle.sst_cli.specs.Faults.{counted};
 ghost use Rattle.sst_cli.specs.Folder.{file_of, put_file};
 ghost use Rattle.sst_cli.specs.MemFiles.{files_of};
 
@@ -9,6 +8,7 @@ use std::alloc::Global;
 
 use sst_num::Memory;
 
+use crate::device::counts::count_on;
 use crate::device::folder::{DevStop, Folder};
 use crate::device::memory::files;
 use crate::device::memory::files::MemFile;
@@ -80,14 +80,6 @@ fn written_in_failure(piece: usize) -> usize
     ensures { result ≡ min 3 piece }
 {
     piece.min(WRITTEN_IN_FAILURE)
-}
-
-/// The count with `more` added, at most the last value of a `u64`.
-fn count_on(count: u64, more: usize) -> u64
-    ensures sum { result ≡ counted count more }
-    ensures rises { count ≤ result }
-{
-    count.saturating_add(more as u64)
 }
 
 impl Folder for MemFolder {

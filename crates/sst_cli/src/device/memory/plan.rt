@@ -7,7 +7,7 @@ use std::alloc::Global;
 
 use sst_num::Memory;
 
-use crate::device::faults::raise;
+use crate::device::counts::raise;
 
 /// The calls that are to fail, and counts of the calls and of the faults so far. Both counts stand still at the
 /// end of a `u64`.

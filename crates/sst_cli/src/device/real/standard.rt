@@ -4,7 +4,7 @@ ghost use Rattle.std.specs.Prelude.{◌≡◌, ◌≤◌, length, None, IfOk, On
 use std::io;
 use std::io::{ErrorKind, Read};
 
-use crate::device::faults::raise;
+use crate::device::counts::raise;
 use crate::device::folder::{DevStop, Failed};
 use crate::device::stream::{Intake, Sink};
 
