@@ -1,0 +1,36 @@
+//! Stored blocks.
+ghost use Rattle.std.specs.Prelude.{◌≡◌, ℕ, ◌+◌, ◌^◌, ◌≤◌, List, ◌++◌, length, OnOk, OnErr};
+ghost use Rattle.sst_cli.specs.Framed.{Framed, frame_of};
+
+use sst_num::{Memory, put_fixed32};
+use sst_sums::{crc32c, mask};
+
+/// The type byte of a block that isn't compressed.
+///
+/// RocksDB: `kNoCompression` in include/rocksdb/compression_type.h.
+const UNCOMPRESSED: u8 = 0;
+
+/// Appends a block as a file stores it: the block, the type byte 0, and the masked CRC32C over both as a number
+/// of four bytes.
+///
+/// Where memory runs out, `out` holds its old bytes followed by any.
+/// RocksDB: `BlockBasedTableBuilder::WriteMaybeCompressedBlock` in
+/// table/block_based/block_based_table_builder.cc.
+pub fn put_frame(out: &mut Vec<u8>, block: &[u8]) -> Result<(), Memory>
+    ensures ok { OnOk result (out.new.items ≡ out.old.items ++ frame_of block.now) }
+    ensures err { OnErr result ((rest : List ℕ) × (out.new.items ≡ out.old.items ++ rest)) }
+{
+    let start = out.len();
+    out.extend_from_slice(block)?;
+    out.push(UNCOMPRESSED)?;
+    let (_, framed) = out.split_at(start);
+    let checksum = mask(crc32c(framed));
+    put_fixed32(out, checksum)
+}
+
+/// A law: a stored block that is put anywhere into a file is what the handle of its place stands for.
+pub fn frame_is_framed()
+    ensures { (front block rest : List ℕ) (end : ℕ) → length block ≤ 2 ^ 29 → length front + length block + 5 ≤ end
+        → Framed (front ++ (frame_of block ++ rest)) end (record { offset = length front; size = length block }) block }
+{
+}

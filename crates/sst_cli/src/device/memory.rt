@@ -1,0 +1,8 @@
+//! Folders and streams in memory, for tests: they tell what they hold, and fail where they are told to.
+mod files;
+mod folder;
+mod plan;
+mod streams;
+
+pub use folder::MemFolder;
+pub use streams::{MemIntake, MemSink};
