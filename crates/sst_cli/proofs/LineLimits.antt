@@ -5,7 +5,8 @@ use Rattle.std.proofs.lemmas.Option.{option_and_then_some, cond_some}
 use Rattle.sst_key.specs.declared.entries.Kind.{Kind}
 use Rattle.sst_key.specs.declared.entries.Entry.{Entry}
 use Rattle.sst_cli.specs.Texts.{cut, digits_from, in_range, seq_field, kind_field, bytes_field, Fields, fields_of, entry_of_fields, entry_of_line}
-use Rattle.sst_cli.specs.Reading.{within_limits, line_entry, IsInLimits}
+use Rattle.sst_cli.specs.Reading.{within_limits, line_entry}
+use Rattle.sst_cli.specs.Written.{IsInLimits}
 
 -- both of two tests
 both_true : (a b : Bool) → (a && b) ≡ true → (a ≡ true) × (b ≡ true)

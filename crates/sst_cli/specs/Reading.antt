@@ -38,9 +38,3 @@ read_input (b ∷ text) = first_line (cut 10 (b ∷ text))
 abbrev pub EndsAs : Bool → List ℕ → Option (List ℕ) → Type 0
 EndsAs true all left = 0 < length all
 EndsAs false all left = (all ≡ []) × (left ≡ Some [])
-
--- the entry is within the limits of each entry alone
-pub record IsInLimits (e : Entry) : Type 0 where
-  pub key : length e.user ≤ 65536
-  pub value : length e.value ≤ 16777216
-  pub seq : e.seq < 2 ^ 56

@@ -2,7 +2,8 @@ ghost use Rattle.std.specs.Prelude.{◌≡◌, ℕ, ◌<◌, ◌≤◌, ◌^◌,
 ghost use Rattle.sst_cli.specs.Faults.{Rose};
 ghost use Rattle.sst_cli.specs.Texts.{cut};
 ghost use Rattle.sst_cli.specs.Reading as reading;
-ghost use Rattle.sst_cli.specs.Reading.{read_input, only_entry, EndsAs, IsInLimits};
+ghost use Rattle.sst_cli.specs.Reading.{read_input, only_entry, EndsAs};
+ghost use Rattle.sst_cli.specs.Written.{IsInLimits};
 ghost use Rattle.sst_cli.specs.ReadingResult.{IsReading};
 ghost use Rattle.sst_cli.specs.declared.reading.InputStop.TheVariants as stop;
 ghost use Rattle.sst_cli.specs.declared.device.folder.DevStop.TheVariants as device;
