@@ -4,6 +4,8 @@
 pub mod device;
 mod cuts;
 mod entry_line;
+mod footer;
 mod lines;
 mod reading;
 mod refusal;
+mod bbt_writer;
