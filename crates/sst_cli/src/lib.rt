@@ -1,11 +1,16 @@
 //! The program over the outside.
 #![tactic(auto)]
 
-pub mod device;
+mod bbt_writer;
 mod cuts;
+pub mod device;
 mod entry_line;
 mod footer;
 mod lines;
+mod produce;
+mod program;
 mod reading;
 mod refusal;
-mod bbt_writer;
+mod words;
+
+pub use program::{Status, run};
