@@ -22,3 +22,8 @@ pub record IsCutShort (result : Status) (text : List ℕ) (old new : Option (Lis
 abbrev pub IsPrinted : Status → Status → List ℕ → Option (List ℕ) → Option (List ℕ) → ℕ → ℕ → Type 0
 IsPrinted result status text old new before now =
     IsWhole result status text old new ⊎ IsCutShort result text old new before now
+
+-- the whole text was printed, or a fault cut it short
+abbrev pub Prints : Status → List ℕ → Option (List ℕ) → Option (List ℕ) → Type 0
+Prints result text old new =
+    (new ≡ append_known old text) ⊎ (IsFault result × ((n : ℕ) × (new ≡ append_known old (take n text))))

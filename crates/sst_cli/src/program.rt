@@ -8,7 +8,7 @@ ghost use Rattle.sst_cli.specs.Reading.{read_input};
 ghost use Rattle.sst_cli.specs.Refusals.{refusal_text};
 ghost use Rattle.sst_cli.specs.declared.refusal.Refusal.{Refusal};
 ghost use Rattle.sst_cli.specs.Run.{IsFault, IsTextOf, ChangesOnly, HoldsWritten, Wrote, usage_text, done_text, text_for};
-ghost use Rattle.sst_cli.specs.Printed.{IsPrinted};
+ghost use Rattle.sst_cli.specs.Printed.{IsPrinted, Prints};
 
 use sst_num::Memory;
 use std::alloc::Global;
@@ -80,7 +80,7 @@ fn write<F: Folder, I: Intake, O: Sink>(
         → IsFault result ⊎ ((result ≡ Status.Input)
             × (O.written out.new ≡ append_known (O.written out.old) (refusal_text refusal))) }
     ensures printed { (text : List ℕ) × IsTextOf (Some name.now) (I.left input.old) text
-        × ((n : ℕ) × (O.written out.new ≡ append_known (O.written out.old) (take n text))) }
+        × Prints result text (O.written out.old) (O.written out.new) }
     ensures ends { (result ≡ Status.Done) ⊎ ((result ≡ Status.Input) ⊎ IsFault result) }
     ensures device { result ≡ Status.Device → Rose (F.faults files.old) (F.faults files.new)
         ⊎ (Rose (I.faults input.old) (I.faults input.new) ⊎ Rose (O.faults out.old) (O.faults out.new)) }
@@ -142,11 +142,11 @@ pub fn run<F: Folder, I: Intake, O: Sink>(
         → IsFault result ⊎ ((result ≡ Status.Input)
             × (O.written out.new ≡ append_known (O.written out.old) (refusal_text refusal))) }
 
-    // With any input: which statuses there are, what is printed at most, and what a fault's cause is.
+    // With any input: which statuses there are, that the whole text is printed but for a fault, and its cause.
     ensures usage_only { result ≡ Status.Usage → line.out_name (map string_bytes words.now) ≡ None }
     ensures never { (result ≢ Status.File) × (result ≢ Status.Exhausted) }
     ensures printed { (text : List ℕ) × IsTextOf (line.out_name (map string_bytes words.now)) (I.left input.old) text
-        × ((n : ℕ) × (O.written out.new ≡ append_known (O.written out.old) (take n text))) }
+        × Prints result text (O.written out.old) (O.written out.new) }
     ensures device { result ≡ Status.Device → Rose (F.faults files.old) (F.faults files.new)
         ⊎ (Rose (I.faults input.old) (I.faults input.new) ⊎ Rose (O.faults out.old) (O.faults out.new)) }
     ensures others { (name : List ℕ) → line.out_name (map string_bytes words.now) ≡ Some name
