@@ -2,13 +2,12 @@
 ghost use Rattle.std.specs.Prelude.{◌≡◌, ◌≤◌, None};
 ghost use Rattle.sst_cli.specs.Faults.{Rose};
 
+use crate::device::counts::{count_on, raise};
+use crate::device::folder::{DevStop, Folder};
 use std::fs::OpenOptions;
 use std::io;
 use std::io::{ErrorKind, Read, Seek, SeekFrom, Write};
 use std::rt::Files;
-
-use crate::device::counts::{count_on, raise};
-use crate::device::folder::{DevStop, Folder};
 
 /// An open file.
 #[derive(Drop)]

@@ -1,12 +1,11 @@
 //! Standard input and output.
 ghost use Rattle.std.specs.Prelude.{◌≡◌, ◌≤◌, length, None, IfOk, OnErr};
 
-use std::io;
-use std::io::{ErrorKind, Read};
-
 use crate::device::counts::raise;
 use crate::device::folder::{DevStop, Failed};
 use crate::device::stream::{Intake, Sink};
+use std::io;
+use std::io::{ErrorKind, Read};
 
 /// Standard input. It tells nothing of what is left.
 #[derive(Drop)]

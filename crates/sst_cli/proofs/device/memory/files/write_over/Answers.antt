@@ -26,9 +26,9 @@ returns-in-Some-range_start-clause-patched c =
     let found = found_at c.args.name.now _ c.args.files.now.items c.in-Some.i c.index_mut.result.now c.in-Some.ensures c.deref.ensures.value c.index_mut.ensures.value in
     let new : MemFile = record { name = c.index_mut.result.now.name; bytes = with_items c.index_mut.result.now.bytes c.copy_over.new.bytes } in
     edit-found _ _ _ _ new (written_over c.args.at (take c.args.count c.args.piece.now)) found refl
-      (refilled c.index_mut.result.now.bytes.len c.copy_over.new.bytes c.index_mut.result.now.bytes.items c.index_mut.result.now.bytes.ok.0
-        (c.copy_over.auto.bytes ∙ ap length c.deref_mut.ensures.value)
-      ∙ c.copy_over.ensures ∙ same_written _ _ _ _ _ _ c.in-Some-range_start.ensures.0 c.split_at.ensures.front c.deref_mut.ensures.value)
+    (refilled c.index_mut.result.now.bytes.len c.copy_over.new.bytes c.index_mut.result.now.bytes.items c.index_mut.result.now.bytes.ok.0
+    (c.copy_over.auto.bytes ∙ ap length c.deref_mut.ensures.value)
+    ∙ c.copy_over.ensures ∙ same_written _ _ _ _ _ _ c.in-Some-range_start.ensures.0 c.split_at.ensures.front c.deref_mut.ensures.value)
 
 pub returns-in-Some-range_start-clause-some : goal.returns-in-Some-range_start-clause-some
 returns-in-Some-range_start-clause-some c = (c.args.count, returns-in-Some-range_start-clause-patched c)
