@@ -1,8 +1,7 @@
 -- A stored block, in a file and as it is put together.
-use Rattle.std.proofs.Common.{◌≡◌, ℕ, ◌+◌, ◌^◌, ◌≤◌, List, [], ◌∷◌, ◌++◌, length, take, drop, refl, sym, ap, ◌∙◌, append_assoc, arith}
+use Rattle.std.proofs.Common.{◌≡◌, ℕ, ◌+◌, ◌^◌, ◌≤◌, List, [], ◌∷◌, ◌++◌, length, take, drop, refl, ap, ◌∙◌, append_assoc, arith}
 use Rattle.std.proofs.Math.Seq.{take-append_seam, drop-append_seam, drop-append-add}
 use Rattle.sst_num.specs.Spelling.{fixed}
-use Rattle.sst_num.specs.declared.block_handle.Handle.{Handle}
 use Rattle.sst_sums.specs.Sums.{mask, crc32c}
 use Rattle.sst_cli.specs.Framed.{Framed, frame_of, trailer_of, stored_checksum, bytes_at}
 

@@ -1,19 +1,19 @@
 -- What a look-up and a change in a list of files are to the folder that the list stands for.
-use Rattle.std.proofs.Common.{◌≡◌, ℕ, zero, suc, ◌+◌, ◌<◌, List, [], ◌∷◌, ◌++◌, Bool, true, false, cond, Option, None, Some, refl, sym, ap, ◌∙◌, subst, arith, length, get_or, set, take, drop, map, position, nat_eq, nat_lt, ◌≤◌, IsTrue}
+use Rattle.std.proofs.Common.{◌≡◌, ℕ, zero, suc, ◌+◌, ◌<◌, List, [], ◌∷◌, ◌++◌, true, false, cond, Option, None, Some, refl, sym, ap, ◌∙◌, arith, length, get_or, set, take, drop, map, position, ◌≤◌, IsTrue}
 use Rattle.std.proofs.lemmas.Bool.{le-ltb, lt-ltb}
 use Rattle.std.specs.List.{position_from}
 use Rattle.std.specs.Ordering.{nat_cmp, eq_by_cmp}
-use Rattle.std.specs.Cmp.Lexicographic.{slice_cmp, pointwise, nat_list_cmp_total, texts_ties}
+use Rattle.std.specs.Cmp.Lexicographic.{slice_cmp, nat_list_cmp_total, texts_ties}
 use Rattle.std.proofs.lemmas.Cmp.{eq_by_cmp_equiv}
 use Rattle.std.specs.String.{string_bytes}
-use Rattle.std.specs.FinMap.{get, insert, find, get-insert, get-empty, from_entries, from_entries_push, get-from_entries}
+use Rattle.std.specs.FinMap.{get, insert, get-insert, get-empty, from_entries, from_entries_push, get-from_entries}
 use Rattle.std.proofs.lemmas.List.{map-append, take-append-drop}
 use Rattle.std.proofs.Math.Seq.{take-append_seam}
 use Rattle.std.proofs.lemmas.List.Quantifiers.{position-Some}
 use Rattle.std.proofs.lemmas.Iterator.Adapters.{position_from-zero}
 use Rattle.sst_cli.specs.declared.device.memory.files.MemFile.{MemFile}
 use Rattle.sst_cli.specs.MemFiles.{entry_of, files_of, is_named}
-use Rattle.sst_cli.specs.Folder.{Files, written_over, edit_file, changed_file, misses, ends_before}
+use Rattle.sst_cli.specs.Folder.{Files, written_over, edit_file, changed_file, ends_before}
 use Rattle.sst_cli.proofs.Maps.{name_cmp_same, same_name, insert-insert, insert-swap, insert-same}
 
 -- the name of a file that is named so

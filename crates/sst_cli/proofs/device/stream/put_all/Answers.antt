@@ -1,4 +1,4 @@
-use Rattle.std.proofs.Common.{arith, ◌≡◌, ◌+◌, ℕ, List, take, length}
+use Rattle.std.proofs.Common.{arith, ◌≡◌, ◌+◌, ℕ, take}
 use Rattle.std.specs.Io.KnownBytes.{append_known}
 use Rattle.sst_cli.proofs.Pieces.{OnErr-always, append_known-more}
 use Rattle.sst_cli.proofs.device.stream.put_all.Goals as goal

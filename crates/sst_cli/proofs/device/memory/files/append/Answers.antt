@@ -1,5 +1,5 @@
-use Rattle.std.proofs.Common.{◌∙◌, ◌++◌, List, take, append-nil, refl, sym, ap, position, arith}
-use Rattle.sst_cli.specs.MemFiles.{files_of, is_named}
+use Rattle.std.proofs.Common.{◌∙◌, ◌++◌, take, append-nil, refl, sym, ap, position, arith}
+use Rattle.sst_cli.specs.MemFiles.{is_named}
 use Rattle.sst_cli.proofs.MemFiles.{found_at, get-found, get-absent, edit-found, edit-none, ends-absent, ends-far}
 use Rattle.sst_cli.proofs.device.memory.files.append.Goals as goal
 

@@ -2,7 +2,7 @@ use Rattle.std.proofs.Common.{◌∙◌, sym, ap, refl, position, take, length, 
 use Rattle.std.specs.Vec.{with_items}
 use Rattle.sst_cli.specs.declared.device.memory.files.MemFile.{MemFile}
 use Rattle.sst_cli.specs.Folder.{written_over}
-use Rattle.sst_cli.specs.MemFiles.{files_of, is_named}
+use Rattle.sst_cli.specs.MemFiles.{is_named}
 use Rattle.sst_cli.proofs.MemFiles.{found_at, get-found, get-absent, edit-found, edit-none, ends-absent, ends-short, ends-far, written_over-nil, same_written, refilled}
 use Rattle.sst_cli.proofs.device.memory.files.write_over.Goals as goal
 
