@@ -2,3 +2,10 @@
 #![tactic(auto)]
 
 pub mod device;
+mod cuts;
+mod entry_line;
+mod footer;
+mod lines;
+mod reading;
+mod refusal;
+mod bbt_writer;

@@ -5,12 +5,10 @@ ghost use Rattle.sst_key.specs.InternalKey.{internal_cmp};
 ghost use Rattle.sst_key.specs.declared.entries.Entry.{Entry};
 ghost use Rattle.std.specs.declared.cmp.Ordering.TheVariants.{Less};
 
-use byteorder::{ByteOrder, LittleEndian};
-use sst_num::Memory;
-use sst_num::put_fixed64;
-use std::cmp::Ordering;
-
 use crate::entries::Kind;
+use byteorder::{ByteOrder, LittleEndian};
+use sst_num::{Memory, put_fixed64};
+use std::cmp::Ordering;
 
 /// How many bytes of a stored key are its tag.
 pub const TAG_LENGTH: usize = 8;
@@ -61,5 +59,4 @@ pub fn cmp_internal(a: &[u8], b: &[u8]) -> Ordering
 pub fn internal_order_is_entry_order()
     ensures { (x y : Entry) → x.seq < 2 ^ 56 → y.seq < 2 ^ 56
         → (internal_cmp (key_of x) (key_of y) ≡ Less) ↔ IsBefore x y }
-{
-}
+{}

@@ -1,10 +1,52 @@
-//! Entries and keys.
+//! Entries of a table, and the keys that a file keeps of them; and the calls, replies and refusals that
+//! all formats of table files share.
+//!
+//! # Layout
+//!
+//! An entry is a user key, a sequence number below 2^56, a kind and a value. A file keeps the first three
+//! as one internal key, the user key and behind it the tag:
+//!
+//! ```text
+//! +---------------------+--------------------------------------------------+
+//! | user key            | tag: sequence number * 256 + the kind's number   |
+//! | any number of bytes | fixed64, low first: the kind, then the sequence  |
+//! +---------------------+--------------------------------------------------+
+//! ```
+//!
+//! The kinds' numbers are 0 (Deletion), 1 (Value), 2 (Merge) and 7 (SingleDeletion).
+//!
+//! Entries are ordered by their user keys, bytewise. Among equal user keys the greater tag comes first, and so
+//! the newer entry before the older.
+//!
+//! # Example
+//!
+//! A value of the user key `a` (61) at sequence number 1 has the tag 257, and its internal key is:
+//!
+//! ```text
+//! 61                        the user key
+//! 01 01 00 00 00 00 00 00   the tag: kind 1, sequence number 1
+//! ```
+//!
+//! The same at sequence number 2, `61 01 02 00 00 00 00 00 00`, comes before it, though it is greater
+//! bytewise.
+//!
+//! # Promises
+//!
+//! - [`pack`] appends the internal key of what it is given. Where memory runs out it answers so, and the
+//!   list keeps its old bytes, with others behind them.
+//! - [`cmp_internal`] compares internal keys as the order says, and takes no memory.
+//! - The order of internal keys is the order of their entries ([`internal_order_is_entry_order`]).
+//!
+//! RocksDB: db/dbformat.h (`ValueType`, `PackSequenceAndType`, `InternalKeyComparator`) and
+//! db/dbformat.cc (`AppendInternalKey`).
 #![tactic(auto)]
 
 mod calls;
 mod entries;
 mod faults;
 mod keys;
+#[cfg(test)]
+mod tests;
 
 pub use calls::{Call, Format, Reply, Target};
 pub use entries::{Entry, EntryView, Kind};

@@ -1,6 +1,6 @@
 -- The one spelling of each number and of each block handle in a file.
 -- RocksDB: util/coding.h (PutVarint64, PutFixed64, and their kin), table/format.h (BlockHandle::EncodeTo).
-use Rattle.std.specs.Prelude.{ℕ, zero, suc, ◌+◌, ◌*◌, ◌/◌, ◌%◌, List, [], ◌∷◌, ◌++◌, nat_lt, if◌then◌else◌}
+use Rattle.std.specs.Prelude.{◌≡◌, ℕ, zero, suc, ◌+◌, ◌*◌, ◌/◌, ◌%◌, ◌<◌, ◌≤◌, List, [], ◌∷◌, ◌++◌, nat_lt, if◌then◌else◌}
 use Rattle.sst_num.specs.declared.block_handle.Handle.{Handle}
 
 -- a number in at most n + 1 groups of seven bits, the lowest group first; a byte of 128 and more says that
@@ -12,6 +12,15 @@ groups (suc n) v = if nat_lt v 128 then v ∷ [] else (v % 128 + 128) ∷ groups
 -- the shortest spelling of a number below 2 ^ 64 as a varint, of at most ten bytes
 unfoldable pub varint : ℕ → List ℕ
 varint v = groups 9 v
+
+-- some bytes spell a number in groups of seven bits: a byte below 128 is the last and stands for itself; one
+-- from 128 on has the low seven bits, and the bytes after it stand for the rest, which isn't 0. So there is no
+-- shorter spelling.
+abbrev pub IsVarint : List ℕ → ℕ → Type 0
+IsVarint [] v = ⊥
+IsVarint (b ∷ []) v = (b < 128) × (v ≡ b)
+IsVarint (b ∷ c ∷ bytes) v =
+    (128 ≤ b) × (b < 256) × ((high : ℕ) × (0 < high) × (v + 128 ≡ b + 128 * high) × IsVarint (c ∷ bytes) high)
 
 -- a number in n bytes, the lowest byte first
 abbrev pub fixed : ℕ → ℕ → List ℕ

@@ -1,9 +1,8 @@
 ghost use Rattle.std.specs.Prelude.{◌≡◌, ℕ, List, [], length, IfOk};
 
+use crate::stops::Memory;
 use std::alloc::Global;
 use std::marker::Model;
-
-use crate::stops::Memory;
 
 /// A list of bytes that owns its memory. Contracts see it as the list.
 #[derive(Debug, Drop)]

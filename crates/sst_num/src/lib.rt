@@ -1,12 +1,65 @@
-//! Numbers, handles and bytes.
+//! Numbers and block handles of table files; and the bytes and the causes of stopping that all crates
+//! above share.
+//!
+//! # Layout
+//!
+//! A varint has seven bits of the number in each byte, the lowest seven first. The top bit of a byte
+//! says whether another byte follows:
+//!
+//! ```text
+//!        byte 1                       byte 2
+//! +---+-------------------+    +---+--------------------+
+//! | 1 | bits 0 to 6 of v  |    | 0 | bits 7 to 13 of v  |
+//! +---+-------------------+    +---+--------------------+
+//!   another byte follows         this is the last
+//! ```
+//!
+//! A fixed number has two, four or eight bytes, the lowest first. A block handle says where a block
+//! stands in the file, by two varints:
+//!
+//! ```text
+//! +----------------------------------+-------------------------------------+
+//! | offset of the block's first byte | size of the block, with no trailer  |
+//! | varint, 1 to 10 bytes            | varint, 1 to 10 bytes               |
+//! +----------------------------------+-------------------------------------+
+//! ```
+//!
+//! # Example
+//!
+//! 300 is 2 * 128 + 44. Its low seven bits, 44 or `2c`, come first, with the top bit set:
+//!
+//! ```text
+//! ac 02                 300 as a varint
+//! 2c 01                 300 as a fixed number of two bytes
+//! 2c 01 00 00           300 as a fixed number of four bytes
+//! 35 08                 the handle of the block of 8 bytes at 53
+//! ```
+//!
+//! # Promises
+//!
+//! - Each `put_` call appends the one spelling of its number. Where memory runs out it answers so, and
+//!   leaves the list as it was.
+//! - A varint takes at most ten bytes, is the only spelling of its number whose last byte isn't a needless
+//!   zero ([`varint_is_the_only_spelling`]), and begins no other ([`no_varint_begins_another`]). So
+//!   varints that follow one another need no mark between them.
+//! - A fixed number that fits its bytes is read back from them ([`fixed_reads_back`]).
+//!
+//! RocksDB: util/coding.h and util/coding_lean.h; table/format.h (`BlockHandle`); the wiki page "Rocksdb
+//! BlockBasedTable Format".
 #![tactic(auto)]
 
 mod block_handle;
 mod byte_list;
+mod laws;
 mod put;
 mod stops;
+#[cfg(test)]
+mod tests;
 
 pub use block_handle::Handle;
 pub use byte_list::Bytes;
+pub use laws::{
+    fixed_reads_back, no_varint_begins_another, varint_is_the_only_spelling, varint_is_the_spelling,
+};
 pub use put::{put_fixed16, put_fixed32, put_fixed64, put_handle, put_varint32, put_varint64};
 pub use stops::{Memory, Refused, Stop};

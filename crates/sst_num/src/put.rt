@@ -1,10 +1,9 @@
 ghost use Rattle.std.specs.Prelude.{◌≡◌, ℕ, ◌≤◌, ◌++◌, take, OnOk, OnErr};
 ghost use Rattle.sst_num.specs.Spelling.{varint, fixed, handle_spelling};
 
-use byteorder::{ByteOrder, LittleEndian};
-
 use crate::block_handle::Handle;
 use crate::stops::Memory;
+use byteorder::{ByteOrder, LittleEndian};
 
 /// The most bytes that a varint takes.
 const VARINT_ROOM: usize = 10;

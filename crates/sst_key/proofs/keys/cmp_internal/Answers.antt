@@ -1,4 +1,3 @@
-use Rattle.std.proofs.Common.{◌≡◌, length, arith}
 use Rattle.sst_key.proofs.KeyParts.{internal_cmp-tied}
 use Rattle.sst_key.proofs.keys.cmp_internal.Goals as goal
 

@@ -1,4 +1,4 @@
-use Rattle.std.proofs.Common.{◌≡◌, ◌<◌, arith}
+use Rattle.std.proofs.Common.{◌≡◌, arith}
 use Rattle.sst_num.proofs.Groups.{Written-ended, Written-more}
 use Rattle.sst_num.proofs.put.write_groups.Goals as goal
 

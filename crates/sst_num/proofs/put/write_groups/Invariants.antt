@@ -1,5 +1,3 @@
-use Rattle.std.proofs.Common.{◌≡◌, ℕ, ◌+◌, ◌/◌, ◌^◌, ◌++◌, List, length, take}
-use Rattle.sst_num.specs.Spelling.{groups}
 use Rattle.sst_num.proofs.Groups.{Written}
 use Rattle.sst_num.proofs.put.write_groups.Given as goal
 

@@ -1,0 +1,6 @@
+pub mod BlockLaws
+pub mod Fronts
+pub mod Held
+pub mod Kept
+pub mod Size
+pub mod Steps

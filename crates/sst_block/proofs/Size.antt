@@ -1,0 +1,97 @@
+-- How long a block can be, by the lengths of its rows.
+use Rattle.std.proofs.Common.{◌≡◌, ℕ, zero, suc, ◌+◌, ◌-◌, ◌*◌, ◌/◌, ◌%◌, ◌^◌, ◌==◌, inr, ◌<◌, ◌≤◌, if◌then◌else◌, Bool, true, false, nat_lt, List, [], ◌∷◌, ◌++◌, length, length-append, length-drop, drop, sum_by, arith}
+use Rattle.std.specs.List.{flat_map}
+use Rattle.sst_num.specs.Spelling.{groups, varint, fixed}
+use Rattle.sst_num.proofs.Fixed.{length-fixed}
+use Rattle.sst_block.specs.Block.{Row, Spelled, IsRow, AreOrdered, common, row_spelling, restarts_spelling}
+use Rattle.sst_block.specs.Chosen.{chosen, restarts_from, restarts_of, block_of}
+use Rattle.sst_block.specs.declared.row_form.RowForm.{RowForm}
+use Rattle.sst_block.specs.declared.builder.BlockBuilder.{BlockBuilder}
+use Rattle.sst_block.specs.Builder.{row_room, Holds, Takes, CanAdd}
+use Rattle.std.proofs.lemmas.List.Sums.{sum_by-cons}
+use Rattle.sst_block.proofs.Steps.{length-chosen, length-restarts}
+
+length-if : (test : Bool) (v : ℕ) (other : List ℕ) (n : ℕ) → 1 ≤ n → length other ≤ n → length (if test then v ∷ [] else other) ≤ n
+length-if true v other n some h = some
+length-if false v other n some h = h
+
+-- no number takes more groups than there are
+length-groups : (n v : ℕ) → length (groups n v) ≤ suc n
+length-groups zero v = omega arith
+length-groups (suc n) v =
+    let rest = length-groups n (v / 128) in
+    length-if (nat_lt v 128) v ((v % 128 + 128) ∷ groups n (v / 128)) (suc (suc n)) (omega arith) (omega arith)
+
+-- a varint has at most ten bytes
+pub length-varint : (v : ℕ) → length (varint v) ≤ 10
+unfolding varint
+length-varint v = length-groups 9 v
+
+-- a row is at most thirty bytes longer than its key and value
+row-le : (s : Spelled) → length (row_spelling s) ≤ length s.row.key + length s.row.value + 30
+row-le s =
+    let rest = drop s.shared s.row.key in
+    let size = length-drop s.shared s.row.key in
+    let a = length-append rest s.row.value in
+    let b = length-append (varint (length s.row.value)) (rest ++ s.row.value) in
+    let c = length-append (varint (length s.row.key - s.shared)) (varint (length s.row.value) ++ (rest ++ s.row.value)) in
+    let d = length-append (varint s.shared) (varint (length s.row.key - s.shared) ++ (varint (length s.row.value) ++ (rest ++ s.row.value))) in
+    omega (arith, size, a, b, c, d, length-varint (length s.row.value), length-varint (length s.row.key - s.shared), length-varint s.shared)
+
+-- the most that a row takes before the restarts
+abbrev row_bytes : Row → ℕ
+row_bytes row = length row.key + length row.value + 30
+
+rows-le : (interval i : ℕ) (before : List ℕ) (rows : List Row)
+    → length (flat_map row_spelling (chosen interval i before rows)) ≤ sum_by row_bytes rows
+rows-le interval i before [] = omega arith
+rows-le interval i before (row ∷ rows) =
+    let s : Spelled = record { shared = if i % interval == 0 then 0 else common before row.key; row = row } in
+    let here = row-le s in
+    let rest = rows-le interval (i + 1) row.key rows in
+    omega (arith, here, rest, sum_by-cons row_bytes row rows, length-append (row_spelling s) (flat_map row_spelling (chosen interval (i + 1) row.key rows)))
+
+restarts_from-le : (interval i at : ℕ) (rows : List Spelled) → length (restarts_from interval i at rows) ≤ length rows
+restarts_from-le interval i at [] = omega arith
+restarts_from-le interval i at (s ∷ rest) =
+    let more = restarts_from-le interval (i + 1) (at + length (row_spelling s)) rest in
+    let one = length-if (i % interval == 0) at [] 1 (omega arith) (omega arith) in
+    let both = length-append (if i % interval == 0 then at ∷ [] else []) (restarts_from interval (i + 1) (at + length (row_spelling s)) rest) in
+    omega (arith, more, one, both)
+
+restarts-le : (interval : ℕ) (rows : List Spelled) → length (restarts_of interval rows) ≤ length rows + 1
+restarts-le interval [] = omega arith
+restarts-le interval (s ∷ rest) = omega (arith, restarts_from-le interval 0 0 (s ∷ rest))
+
+sum-more : (rows : List Row) → sum_by row_room rows
+    ≡ sum_by row_bytes rows + 4 * length rows
+sum-more [] = omega arith
+sum-more (row ∷ rows) = omega (arith, sum-more rows, sum_by-cons row_bytes row rows, sum_by-cons row_room row rows)
+
+-- no block is longer than the room of its rows, and eight bytes
+pub block_of-le : (interval : ℕ) (rows : List Row) → length (block_of interval rows) ≤ sum_by row_room rows + 8
+unfolding block_of
+block_of-le interval rows =
+    let spelled = chosen interval 0 [] rows in
+    let restarts = restarts_of interval spelled in
+    let a = rows-le interval 0 [] rows in
+    let b = restarts-le interval spelled in
+    let c = length-restarts restarts in
+    let d = length-fixed 4 (length restarts) in
+    let e = length-append (flat_map (fixed 4) restarts) (fixed 4 (length restarts)) in
+    let f = length-append (flat_map row_spelling spelled) (restarts_spelling restarts) in
+    omega (arith, a, b, c, d, e, f, sum-more rows, length-chosen interval 0 [] rows)
+
+-- a row may be added where the rows with it have room
+pub can_add : (b : BlockBuilder) (form : RowForm) (interval : ℕ) (rows : List Row) (row : Row) → Holds b form interval rows
+    → IsRow form row → AreOrdered form (rows ++ row ∷ []) → sum_by row_room (rows ++ row ∷ []) + 8 < 2 ^ 29 → CanAdd b row
+can_add b form interval rows row holds has_form ordered room =
+    inr (record {
+      form = form;
+      interval = interval;
+      rows = rows;
+      holds = holds;
+      has_form = has_form;
+      ordered = ordered;
+      short = omega (arith, block_of-le interval (rows ++ row ∷ []), room);
+    })

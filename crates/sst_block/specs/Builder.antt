@@ -1,0 +1,100 @@
+-- What a builder of a block holds between its calls: the rows that were added, spelled, and what the next row
+-- needs of them. RocksDB: BlockBuilder in table/block_based/block_builder.h.
+use Rattle.std.specs.Prelude.{◌≡◌, ◌⊎◌, ℕ, ◌+◌, ◌*◌, ◌^◌, ◌<◌, ◌≤◌, Bool, true, false, List, [], ◌∷◌, ◌++◌, length, All}
+use Rattle.std.specs.List.{flat_map}
+use Rattle.sst_num.specs.Spelling.{fixed}
+use Rattle.sst_block.specs.declared.row_form.RowForm.{RowForm}
+use Rattle.sst_block.specs.declared.row_form.RowForm.TheVariants.{Entries, Names, Index}
+use Rattle.sst_block.specs.declared.builder.BlockBuilder.{BlockBuilder}
+use Rattle.sst_block.specs.Block.{Row, Spelled, common, row_spelling, IsRow, AreOrdered}
+use Rattle.sst_block.specs.Chosen.{chosen, restarts_of, block_of}
+
+-- the form has no flags: its keys are stored whole and its handles stand as they are
+abbrev pub HasNoFlags : RowForm → Type 0
+HasNoFlags Entries = Unit {0}
+HasNoFlags Names = Unit {0}
+HasNoFlags (Index false false) = Unit {0}
+HasNoFlags (Index false true) = ⊥
+HasNoFlags (Index true delta) = ⊥
+
+-- the key of the last row; `before` is the key before the rows
+abbrev pub last_key : List ℕ → List Row → List ℕ
+last_key before [] = before
+last_key before (row ∷ rows) = last_key row.key rows
+
+-- the most that a row takes of a block: its key and value, three lengths and a restart
+abbrev pub row_room : Row → ℕ
+row_room row = length row.key + length row.value + 34
+
+-- the rows as a builder spells them
+abbrev pub spelled_of : ℕ → List Row → List Spelled
+spelled_of interval rows = chosen interval 0 [] rows
+
+-- of n rows `since` are in the group that the last restart began; a full group ends only at the next row
+pub record Counts (interval n since : ℕ) : Type 0 where
+  pub groups : ℕ
+  pub whole : n ≡ groups * interval + since
+  pub within : since ≤ interval
+
+-- the rows may stand in a block of the form
+pub record MayStand (form : RowForm) (interval : ℕ) (rows : List Row) : Type 0 where
+  pub least : 1 ≤ interval
+  pub most : interval ≤ 65536
+  pub forms : All (IsRow form) rows
+  pub ordered : AreOrdered form rows
+  pub short : length (block_of interval rows) < 2 ^ 29
+
+-- what a builder keeps of the rows: their bytes, the restarts in four bytes each, how many those are, the key
+-- of the last row, and how many rows are in its group
+pub record Keeps (interval : ℕ) (rows : List Row) (bytes restarts last : List ℕ) (count since : ℕ) : Type 0 where
+  pub bytes_are : bytes ≡ flat_map row_spelling (spelled_of interval rows)
+  pub restarts_are : restarts ≡ flat_map (fixed 4) (restarts_of interval (spelled_of interval rows))
+  pub last_is : last ≡ last_key [] rows
+  pub count_is : count ≡ length (restarts_of interval (spelled_of interval rows))
+  pub counts : Counts interval (length rows) since
+  pub begun : 0 < length rows → 0 < since
+
+-- the same when the next row may be put, whichever it is: where a group was full, its restart is there and no
+-- key is shared
+pub record IsReady (interval : ℕ) (rows : List Row) (bytes restarts last : List ℕ) (count since : ℕ) : Type 0 where
+  pub bytes_are : bytes ≡ flat_map row_spelling (spelled_of interval rows)
+  pub spelled_are : (row : Row) → spelled_of interval (rows ++ row ∷ [])
+      ≡ spelled_of interval rows ++ record { shared = common last row.key; row = row } ∷ []
+  pub restarts_are : (row : Row) → restarts ≡ flat_map (fixed 4) (restarts_of interval (spelled_of interval (rows ++ row ∷ [])))
+  pub count_is : (row : Row) → count ≡ length (restarts_of interval (spelled_of interval (rows ++ row ∷ [])))
+  pub counts : Counts interval (length rows) since
+  pub room : since < interval
+
+-- memory ran out in an earlier call
+abbrev pub HasFailed : BlockBuilder → Type 0
+HasFailed b = b.failed ≡ true
+
+-- the builder holds the rows, which were added in this order
+pub record Holds (b : BlockBuilder) (form : RowForm) (interval : ℕ) (rows : List Row) : Type 0 where
+  pub sound : b.failed ≡ false
+  pub form_is : b.form ≡ form
+  pub interval_is : b.interval ≡ interval
+  pub keeps : Keeps interval rows b.bytes.items b.restarts.items b.last.items b.count b.since
+  pub fits : MayStand form interval rows
+
+-- the builder holds the rows and has made room for the next
+pub record AwaitsRow (b : BlockBuilder) (form : RowForm) (interval : ℕ) (rows : List Row) : Type 0 where
+  pub sound : b.failed ≡ false
+  pub form_is : b.form ≡ form
+  pub interval_is : b.interval ≡ interval
+  pub ready : IsReady interval rows b.bytes.items b.restarts.items b.last.items b.count b.since
+
+-- the row may come after those that the builder holds: it has the form, its key is after the last, and the
+-- block stays short
+pub record Takes (b : BlockBuilder) (row : Row) : Type 0 where
+  pub form : RowForm
+  pub interval : ℕ
+  pub rows : List Row
+  pub holds : Holds b form interval rows
+  pub has_form : IsRow form row
+  pub ordered : AreOrdered form (rows ++ row ∷ [])
+  pub short : length (block_of interval (rows ++ row ∷ [])) < 2 ^ 29
+
+-- a builder that has failed refuses each row, and any other takes those that may come next
+abbrev pub CanAdd : BlockBuilder → Row → Type 0
+CanAdd b row = HasFailed b ⊎ Takes b row

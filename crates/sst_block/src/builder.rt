@@ -1,0 +1,186 @@
+ghost use Rattle.std.specs.Prelude.{◌≡◌, ℕ, ◌+◌, ◌<◌, ◌≤◌, ◌^◌, ◌++◌, Bool, false, List, [], ◌∷◌, length, take, IfOk, OnOk, OnErr};
+ghost use Rattle.std.specs.Result.{IsErr};
+ghost use Rattle.sst_block.specs.Block.{Row, Block, common, row_spelling};
+ghost use Rattle.sst_block.specs.Builder.{HasNoFlags, HasFailed, Holds, AwaitsRow, Takes, CanAdd};
+ghost use Rattle.sst_block.specs.Chosen.{block_of};
+ghost use Rattle.sst_block.specs.declared.row_form.RowForm as forms;
+
+use crate::row_form::RowForm;
+use sst_num::{Bytes, Memory, put_fixed32, put_varint32};
+use std::alloc::Global;
+
+/// Makes one block of rows that come in order.
+///
+/// A restart, that is a row with its whole key, is each `interval`-th row; every other row leaves to the row
+/// before it the bytes that their keys have in common at their fronts. After an error each later call answers
+/// the error again. RocksDB: `BlockBuilder` in table/block_based/block_builder.h.
+#[derive(Drop)]
+pub struct BlockBuilder {
+    /// What the rows are.
+    form: RowForm,
+    /// How many rows a restart begins.
+    interval: u32,
+    /// The rows so far.
+    bytes: Vec<u8>,
+    /// The place of each restart so far, in four bytes.
+    restarts: Vec<u8>,
+    /// How many restarts there are.
+    count: u32,
+    /// How many rows the last restart has begun so far.
+    since: u32,
+    /// The key of the last row.
+    last: Vec<u8>,
+    /// Memory ran out in an earlier call.
+    failed: bool,
+}
+
+impl BlockBuilder {
+    /// A builder with no row.
+    pub fn new(
+        alloc: Global,
+        form: RowForm,
+        interval: u32,
+        hash: bool,
+    ) -> Result<BlockBuilder, Memory>
+        requires least { 1 ≤ interval }
+        requires most { interval ≤ 65536 }
+        requires hash { hash ≡ false }
+        requires form { HasNoFlags form }
+        ensures { IfOk result (λ b. Holds b form interval []) }
+    {
+        let _ = hash;
+        let mut restarts = Vec::new(alloc);
+        put_fixed32(&mut restarts, 0)?;
+        Ok(BlockBuilder {
+            form,
+            interval,
+            bytes: Vec::new(alloc),
+            restarts,
+            count: 1,
+            since: 0,
+            last: Vec::new(alloc),
+            failed: false,
+        })
+    }
+
+    /// Adds a row after the others.
+    pub fn add(&mut self, key: &[u8], value: &[u8], delta: &[u8]) -> Result<(), Memory>
+        requires { CanAdd self.old (record { key = key.now; value = value.now }) }
+        ensures ok { OnOk result ((form : forms.RowForm) (interval : ℕ) (rows : List Row)
+            → Holds self.old form interval rows
+            → Holds self.new form interval (rows ++ record { key = key.now; value = value.now } ∷ [])) }
+        ensures err { OnErr result (HasFailed self.new) }
+        ensures later { HasFailed self.old → IsErr result }
+    {
+        let _ = delta;
+        if self.failed {
+            return Err(Memory);
+        }
+        match self.put(key, value) {
+            Ok(()) => Ok(()),
+            Err(error) => {
+                self.failed = true;
+                Err(error)
+            }
+        }
+    }
+
+    /// How many bytes the block of the rows so far has. Takes no memory.
+    pub fn size_now(&self) -> usize
+        requires { (form : forms.RowForm) × (interval : ℕ) × (rows : List Row) × Holds self.now form interval rows }
+        ensures { (form : forms.RowForm) (interval : ℕ) (rows : List Row)
+            → Holds self.now form interval rows → result ≡ length (block_of interval rows) }
+    {
+        self.bytes.len() + self.restarts.len() + 4
+    }
+
+    /// The block of the rows that were added.
+    pub fn finish(self) -> Result<Bytes, Memory>
+        ensures exact { IfOk result (λ b. (form : forms.RowForm) (interval : ℕ) (rows : List Row)
+            → Holds self form interval rows → b ≡ block_of interval rows) }
+        ensures block { IfOk result (λ b. (form : forms.RowForm) (interval : ℕ) (rows : List Row)
+            → Holds self form interval rows → Block form b rows) }
+        ensures later { HasFailed self → IsErr result }
+    {
+        if self.failed {
+            return Err(Memory);
+        }
+        let mut bytes = self.bytes;
+        bytes.extend_from_slice(&self.restarts)?;
+        put_fixed32(&mut bytes, self.count)?;
+        Ok(Bytes::from(bytes))
+    }
+
+    /// Puts a row after the others. Where memory runs out, a part of the row may stand there.
+    fn put(&mut self, key: &[u8], value: &[u8]) -> Result<(), Memory>
+        requires { Takes self.old (record { key = key.now; value = value.now }) }
+        ensures { OnOk result ((form : forms.RowForm) (interval : ℕ) (rows : List Row)
+            → Holds self.old form interval rows
+            → Holds self.new form interval (rows ++ record { key = key.now; value = value.now } ∷ [])) }
+    {
+        self.make_room()?;
+        let shared = common_front(&self.last, key);
+        put_row(&mut self.bytes, shared, key, value)?;
+        keep_key(&mut self.last, shared, key)?;
+        self.since += 1;
+        Ok(())
+    }
+
+    /// Begins a new group where the last one is full: a restart, after which a key shares nothing.
+    fn make_room(&mut self) -> Result<(), Memory>
+        requires { (form : forms.RowForm) × (interval : ℕ) × (rows : List Row) × Holds self.old form interval rows }
+        ensures { OnOk result ((form : forms.RowForm) (interval : ℕ) (rows : List Row)
+            → Holds self.old form interval rows → AwaitsRow self.new form interval rows) }
+    {
+        if self.since < self.interval {
+            return Ok(());
+        }
+        put_fixed32(&mut self.restarts, self.bytes.len() as u32)?;
+        self.count += 1;
+        self.since = 0;
+        self.last.truncate(0);
+        Ok(())
+    }
+}
+
+/// How many bytes two keys have in common at their fronts.
+fn common_front(a: &[u8], b: &[u8]) -> usize
+    ensures { result ≡ common a.now b.now }
+{
+    let end = a.len().min(b.len());
+    for at in 0..end {
+        if a[at] != b[at] {
+            return at;
+        }
+    }
+    end
+}
+
+/// Appends a row: three lengths, the rest of the key, and the value.
+fn put_row(bytes: &mut Vec<u8>, shared: usize, key: &[u8], value: &[u8]) -> Result<(), Memory>
+    requires front { shared ≤ length key.now }
+    requires key { length key.now < 2 ^ 32 }
+    requires value { length value.now < 2 ^ 32 }
+    ensures { OnOk result (bytes.new.items
+        ≡ bytes.old.items ++ row_spelling (record { shared = shared; row = record { key = key.now; value = value.now } })) }
+{
+    let (_, rest) = key.split_at(shared);
+    put_varint32(bytes, shared as u32)?;
+    put_varint32(bytes, rest.len() as u32)?;
+    put_varint32(bytes, value.len() as u32)?;
+    bytes.extend_from_slice(rest)?;
+    bytes.extend_from_slice(value)?;
+    Ok(())
+}
+
+/// Makes `last` the key, whose first `shared` bytes stand there.
+fn keep_key(last: &mut Vec<u8>, shared: usize, key: &[u8]) -> Result<(), Memory>
+    requires front { shared ≤ length key.now }
+    requires same { take shared last.old.items ≡ take shared key.now }
+    ensures { OnOk result (last.new.items ≡ key.now) }
+{
+    let (_, rest) = key.split_at(shared);
+    last.truncate(shared);
+    last.extend_from_slice(rest)?;
+    Ok(())
+}

@@ -1,0 +1,103 @@
+ghost use Rattle.std.specs.Prelude.{◌≡◌, ℕ, ◌+◌, ◌<◌, ◌≤◌, ◌^◌, List, ◌++◌, length, vec_len, take, drop, Option, None, Some, IfOk, OnErr};
+ghost use Rattle.std.specs.Io.KnownBytes.{prepend_known};
+ghost use Rattle.sst_cli.specs.Faults.{Rose};
+ghost use Rattle.sst_cli.specs.Texts.{cut};
+ghost use Rattle.sst_cli.specs.Lines.{IsRead, IsFound};
+
+use crate::cuts::first_place;
+use crate::device::folder::{DevStop, Failed};
+use crate::device::stream::Intake;
+
+/// The most bytes that a line has before its line end.
+const LINE_LIMIT: usize = 40_000_000;
+
+/// How many bytes are taken from the input at a time.
+const PIECE: usize = 65_536;
+
+/// The byte that ends a line.
+const LINE_END: u8 = b'\n';
+
+/// What stands at the front of the bytes read so far.
+#[derive(Clone, Copy, Debug, PartialEq, Eq)]
+pub enum Found {
+    /// A line of so many bytes, and its line end.
+    Line(usize),
+    /// More bytes than a line may have, and no line end among them.
+    Long,
+    /// Some bytes and no line end; the input has no more.
+    Unended,
+    /// Nothing; the input has no more.
+    End,
+}
+
+/// A line of so many bytes before its line end, which may be more than a line may have.
+fn found_line(bytes: &[u8], at: usize) -> Found
+    requires { cut 10 bytes.now ≡ Some (take at bytes.now, drop 1 (drop at bytes.now)) }
+    ensures { (left : Option (List ℕ)) → IsFound result bytes.now left }
+{
+    if at > LINE_LIMIT {
+        Found::Long
+    } else {
+        Found::Line(at)
+    }
+}
+
+/// Takes the next piece of the input, and answers its length: 0 where the input has no more.
+fn refill<I: Intake>(bytes: &mut Vec<u8>, input: &mut I) -> Result<usize, DevStop>
+    requires { vec_len bytes.old ≤ 2 ^ 32 }
+    ensures more { IfOk result (λ n. (piece : List ℕ) × (length piece ≡ n) × (bytes.new.items ≡ bytes.old.items ++ piece)
+        × (I.left input.old ≡ prepend_known piece (I.left input.new))) }
+    ensures end { result ≡ Ok 0 → IsRead (I.left input.new) }
+    ensures failed { result ≡ Err DevStop.Failed → Rose (I.faults input.old) (I.faults input.new) }
+    ensures counts { I.faults input.old ≤ I.faults input.new }
+{
+    let before = bytes.len();
+    if bytes.resize(before + PIECE, 0).is_err() {
+        return Err(DevStop::Memory);
+    }
+    let (_, room) = bytes.as_mut_slice().split_at_mut(before);
+    match input.take(room) {
+        Ok(n) => {
+            bytes.truncate(before + n);
+            Ok(n)
+        }
+        Err(Failed) => Err(DevStop::Failed),
+    }
+}
+
+/// The bytes read so far have no line end, and the input has no more.
+fn ended(bytes: &[u8]) -> Found
+    requires { cut 10 bytes.now ≡ None }
+    ensures { (left : Option (List ℕ)) → IsRead left → IsFound result bytes.now left }
+{
+    if bytes.is_empty() {
+        Found::End
+    } else {
+        Found::Unended
+    }
+}
+
+/// Reads on until the bytes have a line end, pass the limit of a line, or the input ends.
+///
+/// The bytes read so far have no line end. Each byte is searched once.
+pub fn read_on<I: Intake>(bytes: &mut Vec<u8>, input: &mut I) -> Result<Found, DevStop>
+    requires { cut 10 bytes.old.items ≡ None }
+    ensures told { IfOk result (λ _. prepend_known bytes.old.items (I.left input.old)
+        ≡ prepend_known bytes.new.items (I.left input.new)) }
+    ensures found { IfOk result (λ found. IsFound found bytes.new.items (I.left input.new)) }
+    ensures failed { result ≡ Err DevStop.Failed → Rose (I.faults input.old) (I.faults input.new) }
+    ensures counts { I.faults input.old ≤ I.faults input.new }
+{
+    while bytes.len() <= LINE_LIMIT {
+        let searched = bytes.len();
+        let taken = refill(bytes, input)?;
+        if taken == 0 {
+            return Ok(ended(bytes.as_slice()));
+        }
+        let (_, piece) = bytes.as_slice().split_at(searched);
+        if let Some(at) = first_place(piece, LINE_END) {
+            return Ok(found_line(bytes.as_slice(), searched + at));
+        }
+    }
+    Ok(Found::Long)
+}

@@ -1,0 +1,42 @@
+use crate::{Kind, cmp_internal, pack};
+use std::cmp::Ordering;
+use std::test::Fail;
+
+// The key `a` (61) at sequence number 1; and each kind by its number, the greatest sequence number behind one.
+#[test]
+fn packed_keys(rt: HostRuntime) -> Result<(), Fail> {
+    for (user, seq, kind, bytes) in [
+        (
+            &b"a"[..],
+            1u64,
+            Kind::Value,
+            &[0x61u8, 1, 1, 0, 0, 0, 0, 0, 0][..],
+        ),
+        (&b""[..], 0, Kind::Deletion, &[0, 0, 0, 0, 0, 0, 0, 0]),
+        (&b""[..], 0, Kind::Value, &[1, 0, 0, 0, 0, 0, 0, 0]),
+        (&b""[..], 0, Kind::Merge, &[2, 0, 0, 0, 0, 0, 0, 0]),
+        (
+            &b""[..],
+            0xff_ffff_ffff_ffff,
+            Kind::SingleDeletion,
+            &[7, 255, 255, 255, 255, 255, 255, 255],
+        ),
+    ] {
+        let mut out = Vec::new(rt.alloc());
+        pack(&mut out, user, seq, kind)?;
+        assert_eq!(rt; out.as_slice(), bytes, "at {kind:?}");
+    }
+    Ok(())
+}
+
+// Among equal user keys the greater tag comes first; a user key comes before what it begins.
+#[test]
+fn compared_keys(rt: HostRuntime) {
+    let older = &[0x61, 1, 1, 0, 0, 0, 0, 0, 0];
+    let newer = &[0x61, 1, 2, 0, 0, 0, 0, 0, 0];
+    let longer = &[0x61, 0x00, 1, 9, 0, 0, 0, 0, 0, 0];
+    assert_eq!(rt; cmp_internal(newer, older), Ordering::Less);
+    assert_eq!(rt; cmp_internal(older, newer), Ordering::Greater);
+    assert_eq!(rt; cmp_internal(older, older), Ordering::Equal);
+    assert_eq!(rt; cmp_internal(older, longer), Ordering::Less);
+}

@@ -1,0 +1,65 @@
+use crate::{
+    Bytes, Handle, put_fixed16, put_fixed32, put_fixed64, put_handle, put_varint32, put_varint64,
+};
+use std::test::Fail;
+
+// The bounds of one and two bytes, the usual example 300, and the greatest number.
+#[test]
+fn varints(rt: HostRuntime) -> Result<(), Fail> {
+    for (v, bytes) in [
+        (0u64, &[0x00u8][..]),
+        (127, &[0x7f]),
+        (128, &[0x80, 0x01]),
+        (300, &[0xac, 0x02]),
+        (
+            u64::MAX,
+            &[0xff, 0xff, 0xff, 0xff, 0xff, 0xff, 0xff, 0xff, 0xff, 0x01],
+        ),
+    ] {
+        let mut out = Vec::new(rt.alloc());
+        put_varint64(&mut out, v)?;
+        assert_eq!(rt; out.as_slice(), bytes, "at {v}");
+    }
+    let mut out = Vec::new(rt.alloc());
+    put_varint32(&mut out, 300)?;
+    put_varint32(&mut out, u32::MAX)?;
+    assert_eq!(rt;
+        out.as_slice(),
+        [0xac, 0x02, 0xff, 0xff, 0xff, 0xff, 0x0f].as_slice()
+    );
+    Ok(())
+}
+
+#[test]
+fn fixed_numbers(rt: HostRuntime) -> Result<(), Fail> {
+    let mut two = Vec::new(rt.alloc());
+    put_fixed16(&mut two, 0x0102)?;
+    assert_eq!(rt; two.as_slice(), [2, 1].as_slice());
+    let mut four = Vec::new(rt.alloc());
+    put_fixed32(&mut four, 0x0102_0304)?;
+    assert_eq!(rt; four.as_slice(), [4, 3, 2, 1].as_slice());
+    let mut eight = Vec::new(rt.alloc());
+    put_fixed64(&mut eight, 0x0102_0304_0506_0708)?;
+    assert_eq!(rt; eight.as_slice(), [8, 7, 6, 5, 4, 3, 2, 1].as_slice());
+    Ok(())
+}
+
+#[test]
+fn handles(rt: HostRuntime) -> Result<(), Fail> {
+    for (offset, size, bytes) in [(0, 21, [0x00, 0x15]), (53, 8, [0x35, 0x08])] {
+        let mut out = Vec::new(rt.alloc());
+        put_handle(&mut out, Handle { offset, size })?;
+        assert_eq!(rt; out.as_slice(), bytes.as_slice(), "at {offset}");
+    }
+    Ok(())
+}
+
+#[test]
+fn bytes_own_a_copy(rt: HostRuntime) -> Result<(), Fail> {
+    let copied = Bytes::from_slice(rt.alloc(), b"key")?;
+    assert_eq!(rt; copied.len(), 3);
+    assert_eq!(rt; copied.as_slice(), b"key".as_slice());
+    assert_eq!(rt; copied.into_vec().as_slice(), b"key".as_slice());
+    assert_eq!(rt; Bytes::new(rt.alloc()).len(), 0);
+    Ok(())
+}
