@@ -31,8 +31,11 @@ pub struct DiskFolder<R: Files + AllocGlobal + Drop> {
 }
 
 impl<R: Files + AllocGlobal + Drop> DiskFolder<R> {
-    /// The files of a runtime, or of a reference to one.
-    pub fn new(rt: R) -> DiskFolder<R> {
+    /// The files of a runtime, or of a reference to one. No call has failed yet, and no byte was drawn.
+    pub fn new(rt: R) -> DiskFolder<R>
+        ensures faults { ⟦<DiskFolder<R> as Folder>⟧.faults result ≡ 0 }
+        ensures drawn { ⟦<DiskFolder<R> as Folder>⟧.drawn result ≡ 0 }
+    {
         DiskFolder {
             rt,
             opened: None,
