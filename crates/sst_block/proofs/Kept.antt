@@ -1,19 +1,17 @@
 -- What a builder keeps of its rows, from one call to the next.
-use Rattle.std.proofs.Common.{◌≡◌, ◌≢◌, ◌⊎◌, inl, inr, ℕ, zero, suc, ◌+◌, ◌-◌, ◌*◌, ◌%◌, ◌^◌, ◌==◌, ◌<◌, ◌≤◌, if◌then◌else◌, Bool, true, false, List, [], ◌∷◌, ◌++◌, length, length-append, refl, sym, ap, ◌∙◌, subst, append_assoc, arith, All}
+use Rattle.std.proofs.Common.{◌≡◌, ◌≢◌, inl, inr, ℕ, ◌+◌, ◌*◌, ◌%◌, ◌==◌, ◌<◌, ◌≤◌, if◌then◌else◌, List, [], ◌∷◌, ◌++◌, length, length-append, refl, sym, ap, ◌∙◌, append_assoc, arith}
 use Rattle.std.specs.List.{flat_map}
 use Rattle.std.proofs.lemmas.Bool.{cases_lt, eq-eqb, ne_eqb}
 use Rattle.std.proofs.lemmas.List.{append-nil}
-use Rattle.std.proofs.lemmas.List.Elements.{All-append}
 use Rattle.std.proofs.lemmas.Nat.{mod-mul-add}
 use Rattle.std.proofs.Math.Nat.{zero-mod, mul-mod_left}
 use Rattle.sst_num.specs.Spelling.{fixed}
 use Rattle.sst_num.proofs.Fixed.{length-fixed}
 use Rattle.sst_block.specs.declared.row_form.RowForm.{RowForm}
-use Rattle.sst_block.specs.declared.builder.BlockBuilder.{BlockBuilder}
-use Rattle.sst_block.specs.Block.{Row, Spelled, common, row_spelling, restarts_spelling, key_cmp, AreOrdered, IsRow}
-use Rattle.sst_block.specs.Chosen.{chosen, restarts_of, block_of}
-use Rattle.sst_block.specs.Builder.{last_key, spelled_of, Counts, MayStand, Keeps, IsReady, Holds, AwaitsRow, Takes}
-use Rattle.sst_block.proofs.Steps.{length-chosen, length-more, last_key-more, chosen-more, restarts_of-first, restarts_of-full, restarts_of-within, rows_spelling-more, restarts_spelling-more, length-restarts, value-le, ordered-more, ordered-last}
+use Rattle.sst_block.specs.Block.{Row, Spelled, common, row_spelling, key_cmp, AreOrdered}
+use Rattle.sst_block.specs.Chosen.{restarts_of, block_of}
+use Rattle.sst_block.specs.Builder.{last_key, spelled_of, Counts, Keeps, IsReady}
+use Rattle.sst_block.proofs.Steps.{length-chosen, length-more, last_key-more, chosen-more, restarts_of-first, restarts_of-full, restarts_of-within, rows_spelling-more, restarts_spelling-more, ordered-more, ordered-last}
 
 -- what is kept of no rows
 pub Keeps-none : (interval : ℕ) → Keeps interval [] [] (fixed 4 0) [] 1 0

@@ -1,4 +1,4 @@
-use Rattle.std.proofs.Common.{◌≡◌, ◌<◌, ◌≤◌, ℕ, List, take, length, refl, sym, ap, ◌∙◌, subst, arith}
+use Rattle.std.proofs.Common.{◌≡◌, ◌≤◌, ℕ, List, take, length, sym, ap, ◌∙◌, arith}
 use Rattle.sst_block.specs.Block.{common}
 use Rattle.sst_block.proofs.Fronts.{common-take, common-le_right}
 use Rattle.sst_block.proofs.Kept.{Keeps-put}
