@@ -24,14 +24,14 @@ Keeps-none interval = record {
   begun = λ some. absurd (omega arith);
 }
 
--- the block is what is kept, and the number of restarts
+-- the block of the rows, by what is kept of them
 pub block_of-kept : (interval : ℕ) (rows : List Row) (bytes restarts last : List ℕ) (count since : ℕ)
     → Keeps interval rows bytes restarts last count since → block_of interval rows ≡ (bytes ++ restarts) ++ fixed 4 count
 unfolding block_of
 block_of-kept interval rows bytes restarts last count since k =
     rw (k.bytes_are, k.restarts_are, k.count_is) (sym (append_assoc (flat_map row_spelling (spelled_of interval rows)) (flat_map (fixed 4) (restarts_of interval (spelled_of interval rows))) (fixed 4 (length (restarts_of interval (spelled_of interval rows))))))
 
--- the block is what is kept, the restarts after the rows, and the number of restarts after those
+-- the same, of the lists that the calls leave
 pub block_of-made : (interval : ℕ) (rows : List Row) (bytes restarts last lent joined whole made : List ℕ) (count since : ℕ)
     → Keeps interval rows bytes restarts last count since
     → lent ≡ restarts → joined ≡ bytes ++ lent → whole ≡ joined ++ fixed 4 count → made ≡ whole → made ≡ block_of interval rows
@@ -39,6 +39,7 @@ block_of-made interval rows bytes restarts last lent joined whole made count sin
     is ∙ last_four ∙ ap (λ (l : List ℕ). l ++ fixed 4 count) (join ∙ ap (λ (l : List ℕ). bytes ++ l) same)
     ∙ sym (block_of-kept interval rows bytes restarts last count since k)
 
+-- how long that block is
 pub length-block : (interval : ℕ) (rows : List Row) (bytes restarts last : List ℕ) (count since : ℕ)
     → Keeps interval rows bytes restarts last count since → length (block_of interval rows) ≡ length bytes + length restarts + 4
 length-block interval rows bytes restarts last count since k =
@@ -48,7 +49,7 @@ length-block interval rows bytes restarts last count since k =
     let four = length-fixed 4 count in
     omega (arith, whole, a, b, four)
 
--- no rows: no count since a restart
+-- without rows no group has begun
 none_since : (interval : ℕ) (bytes restarts last : List ℕ) (count since : ℕ) → 1 ≤ interval → Keeps interval [] bytes restarts last count since → since ≡ 0
 none_since interval bytes restarts last count since least k =
     omega (arith, k.counts.whole)
@@ -58,7 +59,7 @@ some_rows : (interval : ℕ) (rows : List Row) (since : ℕ) → 1 ≤ interval 
     → 0 < length (spelled_of interval rows)
 some_rows interval rows since least c full = omega (arith, c.whole, length-chosen interval 0 [] rows)
 
--- the rest of n rows by the group
+-- what is left of n rows over the full groups
 in_group : (interval n since : ℕ) → (c : Counts interval n since) → since < interval → n % interval ≡ since
 in_group interval n since c room = ap (λ m. m % interval) c.whole ∙ mod-mul-add c.groups interval since room
 
