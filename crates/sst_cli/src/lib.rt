@@ -4,6 +4,7 @@
 pub mod device;
 mod cuts;
 mod entry_line;
+pub mod laws;
 mod lines;
 mod reading;
 mod refusal;
