@@ -6,6 +6,7 @@ mod cuts;
 pub mod device;
 mod entry_line;
 mod footer;
+mod laws;
 mod lines;
 mod produce;
 mod program;
@@ -13,4 +14,5 @@ mod reading;
 mod refusal;
 mod words;
 
+pub use laws::{an_entry_line_reads_back, written_file_stands_for_its_list};
 pub use program::{Status, run};
