@@ -14,8 +14,8 @@ use sst_num::Memory;
 use std::alloc::Global;
 
 use crate::device::folder::{DevStop, Folder};
-use crate::device::put_all::put_all;
-use crate::device::stream::{Intake, Sink};
+
+use crate::device::stream::{Intake, Sink, put_all};
 use crate::produce::produce;
 use crate::reading::InputStop;
 use crate::refusal::{Refusal, refusal_line};
