@@ -1,0 +1,98 @@
+-- The rows of a list of entries, and a list that is written with one entry more.
+use Rattle.std.proofs.Common.{◌≡◌, ◌⊎◌, inl, inr, ℕ, ◌+◌, ◌*◌, ◌^◌, ◌<◌, ◌≤◌, List, [], ◌∷◌, ◌++◌, length, length-append, map, All, refl, sym, ap, ◌∙◌, subst, sum_by, arith}
+use Rattle.std.proofs.lemmas.List.{map-append}
+use Rattle.std.proofs.lemmas.List.Elements.{All-nil, All-cons, All-head, All-tail, All-push}
+use Rattle.std.proofs.lemmas.List.Sums.{sum_by-cons, sum_by_push}
+use Rattle.std.specs.declared.cmp.Ordering.TheVariants.{Less}
+use Rattle.sst_num.specs.Spelling.{fixed}
+use Rattle.sst_num.proofs.Fixed.{length-fixed}
+use Rattle.sst_key.specs.declared.entries.Entry.{Entry}
+use Rattle.sst_key.specs.Entry.{key_of, tag, IsBefore, IsOrdered, entry_weight, weight}
+use Rattle.sst_key.specs.InternalKey.{internal_cmp}
+use Rattle.sst_key.proofs.KeyParts.{internal_cmp-entries, IsBefore-from_less, less-from_IsBefore}
+use Rattle.sst_block.specs.declared.row_form.RowForm.TheVariants.{Entries}
+use Rattle.sst_block.specs.Block.{Row, IsRow, AreOrdered}
+use Rattle.sst_block.specs.Builder.{last_key, row_room}
+use Rattle.sst_block.specs.Chosen.{block_of}
+use Rattle.sst_block.proofs.Size.{block_of-le}
+use Rattle.sst_block.proofs.Steps.{ordered-more, ordered-last}
+use Rattle.sst_cli.specs.BlockBased.{row_of, rows_of}
+use Rattle.sst_cli.specs.Written.{IsInLimits, ComesAfter, Fits}
+
+pub rows_of-append : (entries : List Entry) (e : Entry) → rows_of (entries ++ e ∷ []) ≡ rows_of entries ++ row_of e ∷ []
+rows_of-append entries e = map-append row_of entries (e ∷ [])
+
+-- how long a key is
+pub length-key_of : (e : Entry) → length (key_of e) ≡ length e.user + 8
+length-key_of e = omega (arith, length-append e.user (fixed 8 (tag e.seq e.kind)), length-fixed 8 (tag e.seq e.kind))
+
+pub row_of-is_row : (e : Entry) → IsInLimits e → IsRow Entries (row_of e)
+row_of-is_row e limits =
+    let size : length (key_of e) ≤ 65544 = omega (arith, length-key_of e, limits.key) in
+    (size, (e.user, e.seq, e.kind, limits.seq, refl))
+
+pub rows_of-forms : (entries : List Entry) → All IsInLimits entries → All (IsRow Entries) (rows_of entries)
+rows_of-forms [] limits = All-nil (IsRow Entries)
+rows_of-forms (e ∷ rest) limits =
+    All-cons (IsRow Entries) (row_of e) (rows_of rest) (row_of-is_row e (All-head IsInLimits e rest limits)) (rows_of-forms rest (All-tail IsInLimits e rest limits))
+
+-- entries in order have keys in order, and keys in order are of entries in order
+less-keys : (a b : Entry) → IsInLimits a → IsInLimits b → IsBefore a b → internal_cmp (key_of a) (key_of b) ≡ Less
+less-keys a b la lb before = internal_cmp-entries a b la.seq lb.seq ∙ less-from_IsBefore a b before
+
+before-keys : (a b : Entry) → IsInLimits a → IsInLimits b → internal_cmp (key_of a) (key_of b) ≡ Less → IsBefore a b
+before-keys a b la lb less = IsBefore-from_less a b (sym (internal_cmp-entries a b la.seq lb.seq) ∙ less)
+
+pub rows_of-ordered : (entries : List Entry) → All IsInLimits entries → IsOrdered entries → AreOrdered Entries (rows_of entries)
+rows_of-ordered [] limits ordered = tt
+rows_of-ordered (a ∷ []) limits ordered = tt
+rows_of-ordered (a ∷ b ∷ rest) limits ordered =
+    let more = All-tail IsInLimits a (b ∷ rest) limits in
+    (less-keys a b (All-head IsInLimits a (b ∷ rest) limits) (All-head IsInLimits b rest more) ordered.0, rows_of-ordered (b ∷ rest) more ordered.1)
+
+pub IsOrdered-from_rows : (entries : List Entry) → All IsInLimits entries → AreOrdered Entries (rows_of entries) → IsOrdered entries
+IsOrdered-from_rows [] limits ordered = tt
+IsOrdered-from_rows (a ∷ []) limits ordered = tt
+IsOrdered-from_rows (a ∷ b ∷ rest) limits ordered =
+    let more = All-tail IsInLimits a (b ∷ rest) limits in
+    (before-keys a b (All-head IsInLimits a (b ∷ rest) limits) (All-head IsInLimits b rest more) ordered.0, IsOrdered-from_rows (b ∷ rest) more ordered.1)
+
+-- each row takes at most the weight of its entry
+rows_of-room : (entries : List Entry) → sum_by row_room (rows_of entries) ≤ weight entries
+rows_of-room [] = omega arith
+rows_of-room (e ∷ rest) =
+    omega (arith, rows_of-room rest, length-key_of e, sum_by-cons row_room (row_of e) (rows_of rest), sum_by-cons entry_weight e rest)
+
+pub rows_of-short : (entries : List Entry) → weight entries ≤ 2 ^ 28 → length (block_of 16 (rows_of entries)) < 2 ^ 29
+rows_of-short entries light = omega (arith, block_of-le 16 (rows_of entries), rows_of-room entries, light)
+
+pub weight-append : (entries : List Entry) (e : Entry) → weight (entries ++ e ∷ []) ≡ weight entries + entry_weight e
+weight-append entries e = sum_by_push entry_weight entries e
+
+-- the rows with one more are in order
+rows-ordered-more : (entries : List Entry) (e : Entry) → AreOrdered Entries (rows_of entries) → ComesAfter e entries → AreOrdered Entries (rows_of entries ++ row_of e ∷ [])
+rows-ordered-more [] e ordered after = tt
+rows-ordered-more (a ∷ rest) e ordered (inl none) = absurd (cc)
+rows-ordered-more (a ∷ rest) e ordered (inr less) = ordered-more Entries (row_of a) (rows_of rest) (row_of e) ordered less
+
+-- a list that is written, and one entry more that may come next
+pub Fits-append : (entries : List Entry) (e : Entry) → Fits entries → IsInLimits e → weight entries + entry_weight e ≤ 2 ^ 28 → ComesAfter e entries → Fits (entries ++ e ∷ [])
+Fits-append entries e fits within light after =
+    let limits = All-push IsInLimits entries e fits.limits within in
+    let rows = rows-ordered-more entries e (rows_of-ordered entries fits.limits fits.ordered) after in
+    record {
+      ordered = IsOrdered-from_rows (entries ++ e ∷ []) limits (subst (λ rs. AreOrdered Entries rs) (sym (rows_of-append entries e)) rows);
+      limits = limits;
+      light = omega (arith, weight-append entries e, light);
+    }
+
+-- the last of an ordered list comes after the others
+pub IsOrdered-last : (entries : List Entry) (e : Entry) → IsOrdered (entries ++ e ∷ []) → All IsInLimits (entries ++ e ∷ []) → ComesAfter e entries
+IsOrdered-last [] e ordered limits = inl refl
+IsOrdered-last (a ∷ rest) e ordered limits =
+    let rows = rows_of-ordered (a ∷ rest ++ e ∷ []) limits ordered in
+    inr (ordered-last Entries (row_of a) (rows_of rest) (row_of e) (subst (λ rs. AreOrdered Entries rs) (rows_of-append (a ∷ rest) e) rows))
+
+-- the list with no entry is written
+pub Fits-nil : Fits []
+Fits-nil = record { ordered = tt; limits = All-nil IsInLimits; light = omega arith }
