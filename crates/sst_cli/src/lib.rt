@@ -9,3 +9,4 @@ mod lines;
 mod reading;
 mod refusal;
 mod bbt_writer;
+mod table_parts;
