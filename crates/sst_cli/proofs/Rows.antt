@@ -1,5 +1,5 @@
 -- The rows of a list of entries, and a list that is written with one entry more.
-use Rattle.std.proofs.Common.{◌≡◌, ◌⊎◌, inl, inr, ℕ, ◌+◌, ◌*◌, ◌^◌, ◌<◌, ◌≤◌, List, [], ◌∷◌, ◌++◌, length, length-append, map, All, refl, sym, ap, ◌∙◌, subst, sum_by, arith}
+use Rattle.std.proofs.Common.{◌≡◌, inl, inr, ℕ, ◌+◌, ◌^◌, ◌<◌, ◌≤◌, List, [], ◌∷◌, ◌++◌, length, length-append, All, refl, sym, ap, ◌∙◌, subst, sum_by, arith}
 use Rattle.std.proofs.lemmas.List.{map-append}
 use Rattle.std.proofs.lemmas.List.Elements.{All-nil, All-cons, All-head, All-tail, All-push}
 use Rattle.std.proofs.lemmas.List.Sums.{sum_by-cons, sum_by_push}
@@ -11,11 +11,11 @@ use Rattle.sst_key.specs.Entry.{key_of, tag, IsBefore, IsOrdered, entry_weight, 
 use Rattle.sst_key.specs.InternalKey.{internal_cmp}
 use Rattle.sst_key.proofs.KeyParts.{internal_cmp-entries, IsBefore-from_less, less-from_IsBefore}
 use Rattle.sst_block.specs.declared.row_form.RowForm.TheVariants.{Entries}
-use Rattle.sst_block.specs.Block.{Row, IsRow, AreOrdered}
+use Rattle.sst_block.specs.Block.{IsRow, AreOrdered}
 use Rattle.sst_block.specs.Builder.{last_key, row_room}
 use Rattle.sst_block.specs.Chosen.{block_of}
 use Rattle.sst_block.proofs.Size.{block_of-le}
-use Rattle.sst_block.proofs.Steps.{ordered-more, ordered-last}
+use Rattle.sst_block.proofs.Steps.{last_key-more, ordered-more, ordered-last}
 use Rattle.sst_cli.specs.BlockBased.{row_of, rows_of}
 use Rattle.sst_cli.specs.Written.{IsInLimits, ComesAfter, Fits}
 
@@ -56,6 +56,23 @@ IsOrdered-from_rows (a ∷ []) limits ordered = tt
 IsOrdered-from_rows (a ∷ b ∷ rest) limits ordered =
     let more = All-tail IsInLimits a (b ∷ rest) limits in
     (before-keys a b (All-head IsInLimits a (b ∷ rest) limits) (All-head IsInLimits b rest more) ordered.0, IsOrdered-from_rows (b ∷ rest) more ordered.1)
+
+-- the key of the last row is a key of an entry, and so long
+last_key-limits : (before : List ℕ) (entries : List Entry) → 8 ≤ length before → length before ≤ 65544 → All IsInLimits entries
+    → (8 ≤ length (last_key before (rows_of entries))) × (length (last_key before (rows_of entries)) ≤ 65544)
+last_key-limits before [] least most limits = (least, most)
+last_key-limits before (e ∷ rest) least most limits =
+    let here = (All-head IsInLimits e rest limits).key in
+    last_key-limits (key_of e) rest (omega (arith, length-key_of e)) (omega (arith, length-key_of e, here)) (All-tail IsInLimits e rest limits)
+
+pub last_key-of_some : (e : Entry) (rest : List Entry) → All IsInLimits (e ∷ rest)
+    → (8 ≤ length (last_key [] (rows_of (e ∷ rest)))) × (length (last_key [] (rows_of (e ∷ rest))) ≤ 65544)
+last_key-of_some e rest limits =
+    let here = (All-head IsInLimits e rest limits).key in
+    last_key-limits (key_of e) rest (omega (arith, length-key_of e)) (omega (arith, length-key_of e, here)) (All-tail IsInLimits e rest limits)
+
+pub last_key-append : (entries : List Entry) (e : Entry) → last_key [] (rows_of (entries ++ e ∷ [])) ≡ key_of e
+last_key-append entries e = ap (last_key []) (rows_of-append entries e) ∙ last_key-more [] (rows_of entries) (row_of e)
 
 -- each row takes at most the weight of its entry
 rows_of-room : (entries : List Entry) → sum_by row_room (rows_of entries) ≤ weight entries

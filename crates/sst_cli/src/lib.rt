@@ -5,6 +5,7 @@ pub mod device;
 mod cuts;
 mod entry_line;
 mod footer;
+pub mod laws;
 mod lines;
 mod reading;
 mod refusal;
