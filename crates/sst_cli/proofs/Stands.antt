@@ -33,7 +33,7 @@ length-trailer : (block : List ℕ) → length (trailer_of block) ≡ 5
 unfolding trailer_of
 length-trailer block = refl
 
-length-frame : (block : List ℕ) → length (frame_of block) ≡ length block + 5
+pub length-frame : (block : List ℕ) → length (frame_of block) ≡ length block + 5
 length-frame block = omega (arith, length-append block (trailer_of block), length-trailer block)
 
 -- the file without its footer
@@ -115,7 +115,7 @@ data-short : (entries : List Entry) → Fits entries → length (data_block entr
 data-short entries fits = omega (arith, rows_of-short entries fits.light)
 
 -- the index has a row for the data block
-index-form : (entries : List Entry) → Fits entries → All (IsRow (Index false false)) (index_rows entries)
+pub index-form : (entries : List Entry) → Fits entries → All (IsRow (Index false false)) (index_rows entries)
 index-form [] fits = All-nil (IsRow (Index false false))
 index-form (e ∷ rest) fits =
     let key = last_key-of_some e rest fits.limits in

@@ -1,10 +1,19 @@
 ghost use Rattle.std.specs.Prelude.{◌≡◌, ℕ, ◌+◌, ◌<◌, ◌≤◌, ◌^◌, List, [], ◌∷◌, ◌++◌, length, Option, Some, None, Err, IsErr, IfOk, OnOk, OnErr, IfSome, MatchOption};
-ghost use Rattle.sst_key.specs.Entry.{entry_of};
+ghost use Rattle.sst_key.specs.Entry.{entry_of, key_of};
+ghost use Rattle.sst_key.specs.Entry.{weight as weight_of};
+ghost use Rattle.sst_key.specs.declared.entries.Entry.{Entry};
+ghost use Rattle.sst_block.specs.Builder.{last_key};
+ghost use Rattle.sst_cli.specs.After.{After, HasFailed, IsInUse, reason, is_after};
+ghost use Rattle.sst_cli.specs.BlockBased.{rows_of};
+ghost use Rattle.sst_cli.specs.Written.{Fits, Written};
 
+use crate::footer::put_footer;
+use crate::table_parts::{index_block, metaindex_block, put_block, put_data};
 use sst_block::{BlockBuilder, RowForm};
-use sst_key::{EntryView, WriteFault};
+use sst_key::{EntryView, WriteFault, cmp_internal, pack};
 use sst_num::{Memory, Refused};
 use std::alloc::Global;
+use std::mem;
 
 /// A restart stands at each so many entries of a data block.
 const RESTART_INTERVAL: u32 = 16;
@@ -45,10 +54,6 @@ pub struct BbtWriter {
 }
 
 impl BbtWriter {
-    ghost use Rattle.sst_cli.specs.After.{After, HasFailed, IsInUse, reason};
-    ghost use Rattle.sst_cli.specs.Written.{Written};
-    ghost use Rattle.sst_key.specs.declared.entries.Entry.{Entry};
-
     /// A writer of no entry.
     pub fn new(alloc: Global) -> Result<BbtWriter, Memory>
         ensures { IfOk result (λ w. After w [] []) }
@@ -84,10 +89,18 @@ impl BbtWriter {
         ensures memory { result ≡ Err Refused.Memory → HasFailed self.new }
         ensures later { HasFailed self.old → result ≡ Err Refused.Memory }
     {
-        let _ = e;
         let _ = out;
-        self.failed = true;
-        Err(Refused::Memory)
+        if self.failed {
+            return Err(Refused::Memory);
+        }
+        match self.put(&e) {
+            Ok(()) => Ok(()),
+            Err(Refused::Cause(fault)) => Err(Refused::Cause(fault)),
+            Err(Refused::Memory) => {
+                self.failed = true;
+                Err(Refused::Memory)
+            }
+        }
     }
 
     /// Ends the file: appends what is left of it, and answers how many entries it has.
@@ -101,7 +114,99 @@ impl BbtWriter {
         ensures err { OnErr result ((rest : List ℕ) × (out.new.items ≡ out.old.items ++ rest)) }
         ensures later { HasFailed self → IsErr result }
     {
-        let _ = out;
-        Err(Memory)
+        if self.failed {
+            return Err(Memory);
+        }
+        let start = out.len();
+        let place = put_data(out, self.count, self.block)?;
+        let rows = index_block(self.alloc, &self.last, place)?;
+        let index = put_block(out, start, rows.as_slice())?;
+        let names = metaindex_block(self.alloc)?;
+        let metaindex = put_block(out, start, names.as_slice())?;
+        put_footer(out, metaindex, index)?;
+        Ok(self.count)
     }
+
+    /// Adds an entry after the others, or refuses it.
+    fn put(&mut self, e: &EntryView<'_>) -> Result<(), Refused<WriteFault>>
+        requires seq { e.now.seq < 2 ^ 56 }
+        requires writer { (entries : List Entry) × (bytes : List ℕ) × After self.old entries bytes }
+        ensures ok { OnOk result ((entries : List Entry) (bytes : List ℕ) → After self.old entries bytes
+            → After self.new (entries ++ entry_of e.now ∷ []) bytes) }
+        ensures good { OnOk result ((entries : List Entry) (bytes : List ℕ) → After self.old entries bytes
+            → reason entries (entry_of e.now) ≡ None) }
+        ensures refused { (fault : WriteFault) → result ≡ Err (Refused.Cause fault)
+            → (entries : List Entry) (bytes : List ℕ) → After self.old entries bytes
+            → (reason entries (entry_of e.now) ≡ Some fault) × After self.new entries bytes }
+    {
+        self.key.clear();
+        pack(&mut self.key, e.user, e.seq, e.kind)?;
+        match fault_of(self.count, self.weight, &self.last, &self.key, e) {
+            Some(fault) => Err(Refused::Cause(fault)),
+            None => {
+                self.push(e)?;
+                Ok(())
+            }
+        }
+    }
+
+    /// Adds the row of an entry that isn't refused, whose internal key was made.
+    fn push(&mut self, e: &EntryView<'_>) -> Result<(), Memory>
+        requires key { self.old.key.items ≡ key_of (entry_of e.now) }
+        requires writer { (entries : List Entry) × (bytes : List ℕ) × After self.old entries bytes }
+        requires fits { (entries : List Entry) (bytes : List ℕ) → After self.old entries bytes
+            → Fits (entries ++ entry_of e.now ∷ []) }
+        ensures { OnOk result ((entries : List Entry) (bytes : List ℕ) → After self.old entries bytes
+            → After self.new (entries ++ entry_of e.now ∷ []) bytes) }
+    {
+        self.block.add(&self.key, e.value, &[])?;
+        mem::swap(&mut self.last, &mut self.key);
+        self.count += 1;
+        self.weight += e.user.len() as u64 + e.value.len() as u64 + ENTRY_WEIGHT;
+        Ok(())
+    }
+}
+
+/// The first reason to refuse an entry whose internal key is `key`, after `count` entries of this weight, the
+/// last of which has the internal key `last`.
+fn fault_of(
+    count: u64,
+    weight: u64,
+    last: &[u8],
+    key: &[u8],
+    e: &EntryView<'_>,
+) -> Option<WriteFault>
+    requires last { 0 < count → 8 ≤ length last.now }
+    requires key { 8 ≤ length key.now }
+    requires light { weight ≤ 2 ^ 28 }
+    ensures { (entries : List Entry) → count ≡ length entries → weight ≡ weight_of entries
+        → last.now ≡ last_key [] (rows_of entries) → key.now ≡ key_of (entry_of e.now)
+        → result ≡ reason entries (entry_of e.now) }
+{
+    if !comes_after(count, last, key) {
+        return Some(WriteFault::NotIncreasing);
+    }
+    if e.user.len() > KEY_LIMIT {
+        return Some(WriteFault::KeyLong);
+    }
+    if e.value.len() > VALUE_LIMIT {
+        return Some(WriteFault::ValueLong);
+    }
+    if weight + e.user.len() as u64 + e.value.len() as u64 + ENTRY_WEIGHT > WEIGHT_LIMIT {
+        return Some(WriteFault::Heavy);
+    }
+    None
+}
+
+/// An entry with the internal key `key` is after `count` entries, the last of which has the internal key `last`.
+fn comes_after(count: u64, last: &[u8], key: &[u8]) -> bool
+    requires last { 0 < count → 8 ≤ length last.now }
+    requires key { 8 ≤ length key.now }
+    ensures { (entries : List Entry) (e : Entry) → count ≡ length entries
+        → last.now ≡ last_key [] (rows_of entries) → key.now ≡ key_of e → result ≡ is_after entries e }
+{
+    if count == 0 {
+        return true;
+    }
+    cmp_internal(last, key).is_lt()
 }

@@ -12,6 +12,7 @@ mod produce;
 mod program;
 mod reading;
 mod refusal;
+mod table_parts;
 mod words;
 
 pub use laws::{an_entry_line_reads_back, written_file_stands_for_its_list};
