@@ -1,12 +1,35 @@
--- What a reading call answered is what the input says, where the input is told.
-use Rattle.std.specs.Prelude.{◌≡◌, ℕ, List, [], Option, Some, Result, Ok, Err}
+-- What adding the lines of an input to a writer comes to.
+use Rattle.std.specs.Prelude.{◌≡◌, ℕ, List, [], ◌∷◌, ◌++◌, Option, Some, Result, Ok, Err}
 use Rattle.sst_key.specs.declared.entries.Entry.{Entry}
 use Rattle.sst_cli.specs.declared.refusal.Refusal.{Refusal}
+use Rattle.sst_cli.specs.declared.refusal.Reason.{Reason}
 use Rattle.sst_cli.specs.declared.reading.InputStop.{InputStop}
 use Rattle.sst_cli.specs.declared.reading.InputStop.TheVariants.{Refused, Device}
+use Rattle.sst_cli.specs.declared.bbt_writer.BbtWriter.{BbtWriter}
+use Rattle.sst_cli.specs.After.{After}
+use Rattle.sst_cli.specs.Reading.{read_line, refused_at}
 
--- an entry, and the input is read to its end; or the refusal; a fault says nothing of the input
-abbrev pub IsReading : Result Entry InputStop → Result Entry Refusal → Option (List ℕ) → Type 0
-IsReading (Ok e) reading left = (reading ≡ Ok e) × (left ≡ Some [])
+-- the line is an entry that the writer took
+pub record HasAdded (entries : List Entry) (bytes line : List ℕ) (writer : BbtWriter) (old new : List ℕ) : Type 0 where
+  pub entry : Entry
+  pub reads : read_line entries line ≡ Ok entry
+  pub piece : List ℕ
+  pub put : new ≡ old ++ piece
+  pub after : After writer (entries ++ entry ∷ []) (bytes ++ piece)
+
+-- the line is refused, for this reason
+pub record IsRefused (entries : List Entry) (line : List ℕ) (number : ℕ) (refusal : Refusal) : Type 0 where
+  pub why : Reason
+  pub reads : read_line entries line ≡ Err why
+  pub said : refusal ≡ refused_at number why
+
+-- the writer took some entries, and these pieces were appended
+pub record HoldsSome (writer : BbtWriter) (bytes : List ℕ) : Type 0 where
+  pub entries : List Entry
+  pub after : After writer entries bytes
+
+-- all lines were added and the input is read to its end; or the refusal; a fault says nothing of the input
+abbrev pub IsReading : Result (List Entry) InputStop → Result (List Entry) Refusal → Option (List ℕ) → Type 0
+IsReading (Ok entries) reading left = (reading ≡ Ok entries) × (left ≡ Some [])
 IsReading (Err (Refused r)) reading left = reading ≡ Err r
 IsReading (Err (Device d)) reading left = Unit {0}

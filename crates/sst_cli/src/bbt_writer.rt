@@ -3,7 +3,8 @@ ghost use Rattle.sst_key.specs.Entry.{entry_of, key_of};
 ghost use Rattle.sst_key.specs.Entry.{weight as weight_of};
 ghost use Rattle.sst_key.specs.declared.entries.Entry.{Entry};
 ghost use Rattle.sst_block.specs.Builder.{last_key};
-ghost use Rattle.sst_cli.specs.After.{After, HasFailed, IsInUse, reason, is_after};
+ghost use Rattle.sst_cli.specs.After.{After, HasFailed, IsInUse};
+ghost use Rattle.sst_cli.specs.Reasons.{reason, is_after};
 ghost use Rattle.sst_cli.specs.BlockBased.{rows_of};
 ghost use Rattle.sst_cli.specs.Written.{Fits, Written};
 

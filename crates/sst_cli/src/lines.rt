@@ -1,8 +1,11 @@
-ghost use Rattle.std.specs.Prelude.{◌≡◌, ℕ, ◌+◌, ◌<◌, ◌≤◌, ◌^◌, List, ◌++◌, length, vec_len, take, drop, Option, None, Some, IfOk, OnErr};
+ghost use Rattle.std.specs.Prelude.{◌≡◌, ℕ, ◌+◌, ◌<◌, ◌≤◌, ◌^◌, List, ◌++◌, [], length, vec_len, take, drop, Option, None, Some, IfOk, OnErr};
 ghost use Rattle.std.specs.Io.KnownBytes.{prepend_known};
 ghost use Rattle.sst_cli.specs.Faults.{Rose};
 ghost use Rattle.sst_cli.specs.Texts.{cut};
 ghost use Rattle.sst_cli.specs.Lines.{IsRead, IsFound};
+
+use std::alloc::Global;
+use std::marker::Model;
 
 use crate::cuts::first_place;
 use crate::device::folder::{DevStop, Failed};
@@ -100,4 +103,79 @@ pub fn read_on<I: Intake>(bytes: &mut Vec<u8>, input: &mut I) -> Result<Found, D
         }
     }
     Ok(Found::Long)
+}
+
+/// Takes the lines of an input, one after another. Contracts see it as the bytes that were read and not yet passed.
+#[derive(Drop)]
+pub struct LineReader {
+    /// What was read.
+    bytes: Vec<u8>,
+    /// How many of those bytes were passed.
+    start: usize,
+}
+
+impl Model for LineReader {
+    ghost use Rattle.std.specs.Prelude.{ℕ, List, ◌≤◌, drop, vec_len};
+
+    ghost Value = { List ℕ };
+
+    ghost view = { λ r. drop r.start r.bytes.items };
+
+    ghost invariant = { λ r. r.start ≤ vec_len r.bytes };
+}
+
+impl LineReader {
+    /// A reader that has read nothing.
+    pub fn new(alloc: Global) -> LineReader
+        ensures { result ≡ [] }
+    {
+        LineReader {
+            bytes: Vec::new(alloc),
+            start: 0,
+        }
+    }
+
+    /// Reads on to the end of the next line, and answers what stands at the front of the bytes that weren't passed.
+    pub fn read_line<I: Intake>(&mut self, input: &mut I) -> Result<Found, DevStop>
+        ensures told { IfOk result (λ _. prepend_known self.old (I.left input.old) ≡ prepend_known self.new (I.left input.new)) }
+        ensures found { IfOk result (λ found. IsFound found self.new (I.left input.new)) }
+        ensures failed { result ≡ Err DevStop.Failed → Rose (I.faults input.old) (I.faults input.new) }
+        ensures counts { I.faults input.old ≤ I.faults input.new }
+    {
+        let (_, unread) = self.bytes.as_slice().split_at(self.start);
+        match first_place(unread, LINE_END) {
+            Some(at) => Ok(found_line(unread, at)),
+            None => {
+                pass_front(&mut self.bytes, self.start);
+                self.start = 0;
+                read_on(&mut self.bytes, input)
+            }
+        }
+    }
+
+    /// The first `n` bytes that weren't passed.
+    pub fn front(&self, n: usize) -> &[u8]
+        requires { n ≤ length self.now }
+        ensures { result.now ≡ take n self.now }
+    {
+        let (_, unread) = self.bytes.as_slice().split_at(self.start);
+        let (front, _) = unread.split_at(n);
+        front
+    }
+
+    /// Passes a line of `n` bytes and its line end.
+    pub fn pass(&mut self, n: usize)
+        requires { n < length self.old }
+        ensures { self.new ≡ drop 1 (drop n self.old) }
+    {
+        self.start = self.start + n + 1;
+    }
+}
+
+/// Lets go of the first bytes; the rest moves to the front.
+fn pass_front(bytes: &mut Vec<u8>, n: usize)
+    requires { n ≤ vec_len bytes.old }
+    ensures { bytes.new.items ≡ drop n bytes.old.items }
+{
+    bytes.drain(..n);
 }

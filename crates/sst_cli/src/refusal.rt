@@ -1,36 +1,29 @@
-ghost use Rattle.std.specs.Prelude.{◌≡◌, ◌++◌, Some, IfOk};
+ghost use Rattle.std.specs.Prelude.{◌≡◌, Some, IfOk};
 ghost use Rattle.std.specs.String.{string_bytes};
-ghost use Rattle.sst_cli.specs.Refusals.{reason_text, place_text, refusal_text};
+ghost use Rattle.sst_cli.specs.Refusals as names;
+ghost use Rattle.sst_cli.specs.Refusals.{reason_text, refusal_text};
 
+use sst_key::WriteFault;
 use sst_num::Memory;
 use std::alloc::Global;
 use std::fmt;
 
-/// Why the input of a command is refused.
+/// Why a line of the input is refused.
 #[derive(Clone, Copy, Debug, PartialEq, Eq)]
 pub enum Reason {
-    /// A line isn't an entry line, or passes a limit.
+    /// The line has more than 40,000,000 bytes before its line end.
+    LineLong,
+    /// The line isn't an entry line, or has no line end.
     Line,
-    /// There is a line too many.
-    Many,
-    /// There is no line.
-    Empty,
+    /// The writer refuses the entry of the line.
+    Refused(WriteFault),
 }
 
-/// Where the input of a command is refused.
-#[derive(Clone, Copy, Debug, PartialEq, Eq)]
-pub enum Place {
-    /// At this line, counted from 1.
-    Line(u64),
-    /// At its end.
-    End,
-}
-
-/// A refusal of the input of a command: the first place that has a reason.
+/// A refusal of the input of a command: the first line that is refused, and why.
 #[derive(Clone, Copy, Debug, PartialEq, Eq)]
 pub struct Refusal {
-    /// Where.
-    pub place: Place,
+    /// The line's number, from 1.
+    pub line: u64,
     /// Why.
     pub reason: Reason,
 }
@@ -39,22 +32,26 @@ impl fmt::Display for Reason {
     ghost output = { λ reason. Some (reason_text reason) };
 
     fn fmt<W: fmt::Write>(&self, f: &mut fmt::Formatter<W>) -> fmt::Result {
-        match self {
-            Reason::Line => f.write_str("line"),
-            Reason::Many => f.write_str("many"),
-            Reason::Empty => f.write_str("empty"),
-        }
+        f.write_str(match self {
+            Reason::LineLong => "line-long",
+            Reason::Line => "line",
+            Reason::Refused(fault) => fault_name(*fault),
+        })
     }
 }
 
-impl fmt::Display for Place {
-    ghost output = { λ place. Some (place_text place) };
-
-    fn fmt<W: fmt::Write>(&self, f: &mut fmt::Formatter<W>) -> fmt::Result {
-        match self {
-            Place::Line(number) => write!(f, "{number}"),
-            Place::End => f.write_str("end"),
-        }
+/// The name of a reason that a writer gives.
+fn fault_name(fault: WriteFault) -> &'static str
+    ensures { result.now ≡ names.fault_text fault }
+{
+    match fault {
+        WriteFault::NotIncreasing => "not-increasing",
+        WriteFault::KeyLong => "key-long",
+        WriteFault::ValueLong => "value-long",
+        WriteFault::Heavy => "heavy",
+        WriteFault::ExternalShape => "external-shape",
+        WriteFault::KeySize => "key-size",
+        WriteFault::ShortKey => "short-key",
     }
 }
 
@@ -62,8 +59,8 @@ impl fmt::Display for Place {
 pub fn refusal_line(alloc: Global, refusal: Refusal) -> Result<String, Memory>
     ensures { IfOk result (λ text. string_bytes text ≡ refusal_text refusal) }
 {
-    let place = refusal.place;
+    let line = refusal.line;
     let reason = refusal.reason;
-    let text = format!(in alloc; "input {place} {reason}\n")?;
+    let text = format!(in alloc; "input {line} {reason}\n")?;
     Ok(text)
 }
