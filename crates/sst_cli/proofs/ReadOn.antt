@@ -1,7 +1,7 @@
 -- What reading on to the end of a line keeps, and what a piece adds.
 use Rattle.std.proofs.Common.{◌≡◌, ℕ, suc, ◌+◌, ◌<◌, ◌≤◌, List, [], ◌∷◌, ◌++◌, length, take, drop, Option, Some, None, refl, sym, ap, ◌∙◌, append_assoc, arith}
 use Rattle.std.specs.Io.KnownBytes.{prepend_known}
-use Rattle.std.proofs.lemmas.List.{append-nil}
+use Rattle.std.proofs.lemmas.List.{append-nil, drop-drop}
 use Rattle.sst_cli.specs.Texts.{cut}
 use Rattle.sst_cli.specs.Lines.{BeginsLong}
 use Rattle.sst_cli.proofs.Cut.{cut-append_none}
@@ -53,3 +53,8 @@ drop-front (x ∷ front) rest = drop-front front rest
 -- the part that wasn't searched is the piece
 pub piece_is : (bytes piece all part : List ℕ) (k : ℕ) → k ≡ length bytes → all ≡ bytes ++ piece → part ≡ drop k all → part ≡ piece
 piece_is bytes piece all part k len is cut_off = cut_off ∙ ap (λ n. drop n all) len ∙ ap (drop (length bytes)) is ∙ drop-front bytes piece
+
+-- what is left after a line and its line end
+pub passed : (bytes unread : List ℕ) (start n : ℕ) → drop start bytes ≡ unread → drop (start + n + 1) bytes ≡ drop 1 (drop n unread)
+passed bytes unread start n is =
+    sym (ap (λ (x : List ℕ). drop 1 (drop n x)) (sym is) ∙ ap (drop 1) (drop-drop n start bytes) ∙ drop-drop 1 (start + n) bytes)

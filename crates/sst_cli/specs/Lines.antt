@@ -20,5 +20,5 @@ pub record BeginsLong (bytes : List ℕ) : Type 0 where
 abbrev pub IsFound : Found → List ℕ → Option (List ℕ) → Type 0
 IsFound (Line n) bytes left = (n ≤ 40000000) × (cut 10 bytes ≡ Some (take n bytes, drop 1 (drop n bytes)))
 IsFound Long bytes left = BeginsLong bytes
-IsFound Unended bytes left = (0 < length bytes) × (cut 10 bytes ≡ None) × IsRead left
+IsFound Unended bytes left = (0 < length bytes) × (length bytes ≤ 40000000) × (cut 10 bytes ≡ None) × IsRead left
 IsFound End bytes left = (bytes ≡ []) × IsRead left

@@ -3,11 +3,9 @@ use Rattle.std.specs.Prelude.{◌≡◌, ℕ, List, [], ◌∷◌, ◌++◌, Opt
 use Rattle.sst_key.specs.declared.entries.Entry.{Entry}
 use Rattle.sst_cli.specs.declared.refusal.Refusal.{Refusal}
 use Rattle.sst_cli.specs.declared.refusal.Reason.{Reason}
-use Rattle.sst_cli.specs.declared.reading.InputStop.{InputStop}
-use Rattle.sst_cli.specs.declared.reading.InputStop.TheVariants.{Refused, Device}
 use Rattle.sst_cli.specs.declared.bbt_writer.BbtWriter.{BbtWriter}
 use Rattle.sst_cli.specs.After.{After}
-use Rattle.sst_cli.specs.Reading.{read_line, refused_at}
+use Rattle.sst_cli.specs.Reading.{read_line, read_input, refused_at}
 
 -- the line is an entry that the writer took
 pub record HasAdded (entries : List Entry) (bytes line : List ℕ) (writer : BbtWriter) (old new : List ℕ) : Type 0 where
@@ -23,13 +21,9 @@ pub record IsRefused (entries : List Entry) (line : List ℕ) (number : ℕ) (re
   pub reads : read_line entries line ≡ Err why
   pub said : refusal ≡ refused_at number why
 
--- the writer took some entries, and these pieces were appended
-pub record HoldsSome (writer : BbtWriter) (bytes : List ℕ) : Type 0 where
+-- the writer took the entries of the whole input, which is read to its end, and appended these bytes
+pub record HoldsInput (writer : BbtWriter) (bytes : List ℕ) (input left : Option (List ℕ)) : Type 0 where
   pub entries : List Entry
   pub after : After writer entries bytes
-
--- all lines were added and the input is read to its end; or the refusal; a fault says nothing of the input
-abbrev pub IsReading : Result (List Entry) InputStop → Result (List Entry) Refusal → Option (List ℕ) → Type 0
-IsReading (Ok entries) reading left = (reading ≡ Ok entries) × (left ≡ Some [])
-IsReading (Err (Refused r)) reading left = reading ≡ Err r
-IsReading (Err (Device d)) reading left = Unit {0}
+  pub said : (text : List ℕ) → input ≡ Some text → read_input text ≡ Ok entries
+  pub read : (text : List ℕ) → input ≡ Some text → left ≡ Some []

@@ -104,6 +104,17 @@ impl BbtWriter {
         }
     }
 
+    /// How many entries were added. Takes no memory.
+    ///
+    /// Of a writer in which no call has failed.
+    pub fn count(&self) -> u64
+        requires { (entries : List Entry) × (bytes : List ℕ) × After self.now entries bytes }
+        ensures exact { (entries : List Entry) (bytes : List ℕ) → After self.now entries bytes → result ≡ length entries }
+        ensures few { result ≤ 2 ^ 22 }
+    {
+        self.count
+    }
+
     /// Ends the file: appends what is left of it, and answers how many entries it has.
     ///
     /// Where memory runs out, `out` holds its old bytes followed by any.

@@ -70,7 +70,8 @@ fn refill<I: Intake>(bytes: &mut Vec<u8>, input: &mut I) -> Result<usize, DevSto
 
 /// The bytes read so far have no line end, and the input has no more.
 fn ended(bytes: &[u8]) -> Found
-    requires { cut 10 bytes.now ≡ None }
+    requires none { cut 10 bytes.now ≡ None }
+    requires short { length bytes.now ≤ 40000000 }
     ensures { (left : Option (List ℕ)) → IsRead left → IsFound result bytes.now left }
 {
     if bytes.is_empty() {

@@ -1,9 +1,10 @@
-ghost use Rattle.std.specs.Prelude.{◌≡◌, ◌≢◌, ℕ, ◌<◌, ◌≤◌, ◌^◌, List, length, Some, Ok, Err, OnOk};
+ghost use Rattle.std.specs.Prelude.{◌≡◌, ◌≢◌, ℕ, ◌<◌, ◌≤◌, ◌^◌, List, [], length, Some, Ok, Err, OnOk};
 ghost use Rattle.sst_key.specs.declared.entries.Entry.{Entry};
 ghost use Rattle.sst_cli.specs.After.{After};
 ghost use Rattle.sst_cli.specs.Reading as reading;
 ghost use Rattle.sst_cli.specs.Reading.{refused_at};
-ghost use Rattle.sst_cli.specs.ReadingResult.{HasAdded, IsRefused};
+ghost use Rattle.sst_cli.specs.ReadingResult.{HasAdded, IsRefused, HoldsInput};
+ghost use Rattle.sst_cli.specs.Faults.{Rose};
 ghost use Rattle.sst_cli.specs.declared.refusal.Refusal.{Refusal};
 ghost use Rattle.sst_cli.specs.declared.reading.InputStop.TheVariants as stop;
 ghost use Rattle.sst_cli.specs.declared.device.folder.DevStop.TheVariants as device;
@@ -14,7 +15,9 @@ use std::alloc::Global;
 
 use crate::bbt_writer::BbtWriter;
 use crate::device::folder::DevStop;
+use crate::device::stream::Intake;
 use crate::entry_line::entry_of_line;
+use crate::lines::{Found, LineReader};
 use crate::refusal::{Reason, Refusal};
 
 /// Why the input of a command gave nothing.
@@ -100,5 +103,38 @@ pub fn add_line(
     match entry_of_line(alloc, line)? {
         None => Err(refused(number, Reason::Line)),
         Some(entry) => add_entry(writer, &entry, number, file),
+    }
+}
+
+/// Adds the entries of all lines of the input, which it reads to its end, to a writer of no entry.
+///
+/// `file` takes what the writer appends; it is empty before.
+pub fn add_lines<I: Intake>(
+    alloc: Global,
+    writer: &mut BbtWriter,
+    input: &mut I,
+    file: &mut Vec<u8>,
+) -> Result<(), InputStop>
+    requires writer { After writer.old [] [] }
+    requires empty { file.old.items ≡ [] }
+    ensures ok { OnOk result (HoldsInput writer.new file.new.items (I.left input.old) (I.left input.new)) }
+    ensures refused { (refusal : Refusal) → result ≡ Err (InputStop.Refused refusal)
+        → (text : List ℕ) → I.left input.old ≡ Some text → reading.read_input text ≡ Err refusal }
+    ensures failed { result ≡ Err (InputStop.Device DevStop.Failed) → Rose (I.faults input.old) (I.faults input.new) }
+    ensures counts { I.faults input.old ≤ I.faults input.new }
+{
+    let mut lines = LineReader::new(alloc);
+    loop {
+        let found = lines.read_line(input)?;
+        match found {
+            Found::End => return Ok(()),
+            Found::Line(n) => {
+                let number = writer.count() + 1;
+                add_line(alloc, writer, lines.front(n), number, file)?;
+                lines.pass(n);
+            }
+            Found::Long => return Err(refused(writer.count() + 1, Reason::LineLong)),
+            Found::Unended => return Err(refused(writer.count() + 1, Reason::Line)),
+        }
     }
 }

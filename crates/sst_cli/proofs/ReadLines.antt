@@ -1,0 +1,64 @@
+-- What a line says to a writer.
+use Rattle.std.proofs.Common.{◌≡◌, ℕ, zero, suc, ◌+◌, ◌^◌, ◌<◌, ◌≤◌, Bool, true, false, cond, nat_lt, List, [], ◌∷◌, ◌++◌, length, take, drop, Option, Some, None, Result, Ok, Err, refl, sym, ap, ◌∙◌, subst, arith, rules}
+use Rattle.std.proofs.lemmas.Bool.{le-ltb}
+use Rattle.sst_key.specs.declared.entries.Entry.{Entry}
+use Rattle.sst_key.specs.declared.faults.WriteFault.{WriteFault}
+use Rattle.sst_cli.specs.declared.refusal.Refusal.{Refusal}
+use Rattle.sst_cli.specs.declared.refusal.Reason.{Reason}
+use Rattle.sst_cli.specs.declared.refusal.Reason.TheVariants as why
+use Rattle.sst_cli.specs.declared.reading.InputStop.{InputStop}
+use Rattle.sst_cli.specs.declared.reading.InputStop.TheVariants as stop
+use Rattle.sst_cli.specs.declared.bbt_writer.BbtWriter.{BbtWriter}
+use Rattle.sst_cli.specs.After.{After}
+use Rattle.sst_cli.specs.Reasons.{reason}
+use Rattle.sst_cli.specs.Texts.{entry_of_line}
+use Rattle.sst_cli.specs.Reading.{read_line, by_entry, by_reason, refused_at}
+use Rattle.sst_cli.specs.ReadingResult.{HasAdded, IsRefused}
+
+-- an entry is what a view of its parts lends
+pub same_entry : (e : Entry) (user value : List ℕ) → user ≡ e.user → value ≡ e.value
+    → ◌≡◌ {A = Entry} (record { user = user; seq = e.seq; kind = e.kind; value = value }) e
+same_entry e user value a b = rw (a, b) refl
+
+-- what a line within its limit says
+pub read_line-short : (entries : List Entry) (line : List ℕ) → length line ≤ 40000000 → read_line entries line ≡ by_entry entries (entry_of_line line)
+unfolding read_line
+read_line-short entries line short = rw (le-ltb 40000000 (length line) short) refl
+
+-- an entry that the writer took
+pub entry_added : (entries : List Entry) (bytes line : List ℕ) (e seen : Entry) (writer : BbtWriter) (old new piece : List ℕ)
+    → read_line entries line ≡ by_entry entries (Some e) → seen ≡ e → reason entries seen ≡ None
+    → new ≡ old ++ piece → After writer (entries ++ seen ∷ []) (bytes ++ piece) → HasAdded entries bytes line writer old new
+entry_added entries bytes line e seen writer old new piece reads same good put after =
+    let good_e : reason entries e ≡ None = ap (reason entries) (sym same) ∙ good in
+    record {
+      entry = e;
+      reads = reads ∙ ap (by_reason e) good_e;
+      piece = piece;
+      put = put;
+      after = subst (λ (x : Entry). After writer (entries ++ x ∷ []) (bytes ++ piece)) same after;
+    }
+
+-- an entry that the writer refused
+pub entry_refused : (entries : List Entry) (line : List ℕ) (e seen : Entry) (fault : WriteFault) (number : ℕ) (answer : InputStop) (refusal : Refusal)
+    → read_line entries line ≡ by_entry entries (Some e) → seen ≡ e → reason entries seen ≡ Some fault
+    → answer ≡ stop.Refused (refused_at number (why.Refused fault)) → answer ≡ stop.Refused refusal → IsRefused entries line number refusal
+entry_refused entries line e seen fault number answer refusal reads same given said is =
+    let given_e : reason entries e ≡ Some fault = ap (reason entries) (sym same) ∙ given in
+    record { why = why.Refused fault; reads = reads ∙ ap (by_reason e) given_e; said = cc }
+
+-- a line that isn't an entry line
+pub line_refused : (entries : List Entry) (line : List ℕ) (number : ℕ) (answer : InputStop) (refusal : Refusal)
+    → length line ≤ 40000000 → entry_of_line line ≡ None
+    → answer ≡ stop.Refused (refused_at number why.Line) → answer ≡ stop.Refused refusal → IsRefused entries line number refusal
+line_refused entries line number answer refusal short none said is =
+    record { why = why.Line; reads = read_line-short entries line short ∙ ap (by_entry entries) none; said = cc }
+
+-- the stop of an answer
+pub given_answer : (answer given : InputStop) → ◌≡◌ {A = Result (Unit {0}) InputStop} (Err answer) (Err given) → answer ≡ given
+given_answer answer given is = cc
+
+-- the stop that a call passed on
+pub passed_answer : (result : Result (Unit {0}) InputStop) (passed came given : InputStop) → result ≡ Err passed → passed ≡ came → result ≡ Err given → came ≡ given
+passed_answer result passed came given is same told =
+    let both : ◌≡◌ {A = Result (Unit {0}) InputStop} (Err passed) (Err given) = sym is ∙ told in sym same ∙ given_answer passed given both
