@@ -1,7 +1,8 @@
--- The one line that is written for an entry. These texts are this project's own.
-use Rattle.std.specs.Prelude.{ℕ, List, [], ◌∷◌, ◌++◌}
+-- The one line that is written for an entry, and the text of a list. These texts are this project's own.
+use Rattle.std.specs.Prelude.{ℕ, List, [], ◌∷◌, ◌++◌, All}
+use Rattle.std.specs.List.{flat_map}
 use Rattle.std.specs.Fmt.{decimal}
-use Rattle.hex.specs.Hex.{encode_lower}
+use Rattle.hex.specs.Hex.{encode_lower, IsBytes}
 use Rattle.sst_key.specs.declared.entries.Kind.{Kind}
 use Rattle.sst_key.specs.declared.entries.Kind.TheVariants.{Deletion, Value, Merge, SingleDeletion}
 use Rattle.sst_key.specs.declared.entries.Entry.{Entry}
@@ -22,3 +23,15 @@ kind_letter SingleDeletion = 83
 abbrev pub entry_line : Entry → List ℕ
 entry_line e =
     hex_text e.user ++ (32 ∷ (decimal e.seq ++ (32 ∷ kind_letter e.kind ∷ 32 ∷ hex_text e.value)))
+
+-- the line of an entry and its line end
+abbrev pub ended_line : Entry → List ℕ
+ended_line e = entry_line e ++ 10 ∷ []
+
+-- the text of a list: the line of each entry and its line end
+abbrev pub lines_text : List Entry → List ℕ
+lines_text entries = flat_map ended_line entries
+
+-- the user key and the value of each entry are bytes
+abbrev pub AreBytes : List Entry → Type 0
+AreBytes entries = All (λ e. IsBytes e.user × IsBytes e.value) entries

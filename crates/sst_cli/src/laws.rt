@@ -1,10 +1,11 @@
 //! What is true of each file and of each text, whatever code makes or reads it.
-ghost use Rattle.std.specs.Prelude.{◌≡◌, ◌<◌, ◌^◌, List, Some};
+ghost use Rattle.std.specs.Prelude.{◌≡◌, ◌<◌, ◌^◌, List, Some, Ok};
 ghost use Rattle.hex.specs.Hex.{IsBytes};
 ghost use Rattle.sst_key.specs.declared.entries.Entry.{Entry};
 ghost use Rattle.sst_cli.specs.Written.{Fits, Written, table_of};
 ghost use Rattle.sst_cli.specs.Texts.{entry_of_line};
-ghost use Rattle.sst_cli.specs.EntryText.{entry_line};
+ghost use Rattle.sst_cli.specs.EntryText.{AreBytes, entry_line, lines_text};
+ghost use Rattle.sst_cli.specs.Reading.{read_input};
 
 /// The file that is written for a list stands for that list.
 ///
@@ -21,4 +22,13 @@ pub fn written_file_stands_for_its_list()
 /// It holds of each entry of bytes whose sequence number is below 2^56. The lines are this project's own.
 pub fn an_entry_line_reads_back()
     ensures { (e : Entry) → IsBytes e.user → IsBytes e.value → e.seq < 2 ^ 56 → entry_of_line (entry_line e) ≡ Some e }
+{}
+
+/// The text that is written for a list reads back as the list.
+///
+/// The text is the line of each entry and its line end. It holds of each list of entries of bytes that is written:
+/// one that increases, whose entries are within their limits, and whose weight is at most 2^28. The list with no
+/// entry is one, and its text is empty. The texts and the limits are this project's own.
+pub fn a_list_reads_back()
+    ensures { (entries : List Entry) → Fits entries → AreBytes entries → read_input (lines_text entries) ≡ Ok entries }
 {}

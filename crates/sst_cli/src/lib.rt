@@ -13,4 +13,4 @@ mod refusal;
 mod table_parts;
 mod words;
 
-pub use laws::{an_entry_line_reads_back, written_file_stands_for_its_list};
+pub use laws::{a_list_reads_back, an_entry_line_reads_back, written_file_stands_for_its_list};
