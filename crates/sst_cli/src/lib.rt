@@ -8,9 +8,12 @@ mod entry_line;
 mod footer;
 mod laws;
 mod lines;
+mod produce;
+mod program;
 mod reading;
 mod refusal;
 mod table_parts;
 mod words;
 
 pub use laws::{a_list_reads_back, an_entry_line_reads_back, written_file_stands_for_its_list};
+pub use program::{Status, run};

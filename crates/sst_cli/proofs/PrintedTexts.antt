@@ -1,0 +1,71 @@
+-- What was printed of a text, and which text a `write` has.
+use Rattle.std.proofs.Common.{◌≡◌, ◌⊎◌, ℕ, List, [], length, Option, None, Some, Result, Ok, Err, refl, sym, ap, ◌∙◌, subst, inl, inr}
+use Rattle.std.specs.Io.KnownBytes.{append_known}
+use Rattle.std.proofs.lemmas.List.{append-nil}
+use Rattle.sst_key.specs.declared.entries.Entry.{Entry}
+use Rattle.sst_cli.specs.Reading.{read_input}
+use Rattle.sst_cli.specs.Folder.{Files}
+use Rattle.sst_cli.specs.Refusals.{refusal_text}
+use Rattle.sst_cli.specs.Run.{IsTextOf, IsFault, HoldsWritten, Wrote, text_for, done_text}
+use Rattle.sst_cli.specs.Printed.{IsPrinted, Prints}
+use Rattle.sst_cli.specs.declared.refusal.Refusal.{Refusal}
+use Rattle.sst_cli.specs.declared.program.Status.{Status}
+use Rattle.sst_cli.specs.declared.program.Status.TheVariants.{Done, Input}
+
+-- a printed text is whole, or a fault cut it short
+pub some_printed : (result status : Status) (text : List ℕ) (old new : Option (List ℕ)) (before now : ℕ)
+    → IsPrinted result status text old new before now → Prints result text old new
+some_printed result status text old new before now (inl whole) = inl whole.printed
+some_printed result status text old new before now (inr short) = inr (short.ends, (short.count, short.printed))
+
+-- nothing was printed
+pub none_printed : (result : Status) (text : List ℕ) (old : Option (List ℕ)) → IsFault result → Prints result text old old
+none_printed result text None fault = inr (fault, (0, refl))
+none_printed result text (Some bytes) fault = inr (fault, (0, ap Some (sym (append-nil bytes))))
+
+-- the text of an input that says this, where it is told
+pub text_that_says : (name : List ℕ) (left : Option (List ℕ)) (reading : Result (List Entry) Refusal)
+    → ((input : List ℕ) → left ≡ Some input → text_for (read_input input) ≡ text_for reading)
+    → IsTextOf (Some name) left (text_for reading)
+text_that_says name None reading says = (reading, refl)
+text_that_says name (Some input) reading says = sym (says input refl)
+
+-- some text, where it doesn't matter which
+pub some_text : (name : List ℕ) (left : Option (List ℕ)) → (text : List ℕ) × IsTextOf (Some name) left text
+some_text name None = (text_for (Ok []), (Ok [], refl))
+some_text name (Some input) = (text_for (read_input input), refl)
+
+-- the answers of reading are one
+pub same_entries : (reading : Result (List Entry) Refusal) (some others : List Entry) → reading ≡ Ok some → reading ≡ Ok others → some ≡ others
+same_entries reading some others a b = let both = sym a ∙ b in cc
+
+pub same_refusal : (reading : Result (List Entry) Refusal) (some other : Refusal) → reading ≡ Err some → reading ≡ Err other → some ≡ other
+same_refusal reading some other a b = let both = sym a ∙ b in cc
+
+pub not_both : (reading : Result (List Entry) Refusal) (entries : List Entry) (refusal : Refusal) → reading ≡ Ok entries → reading ≡ Err refusal → ⊥
+not_both reading entries refusal a b = let both = sym a ∙ b in cc
+
+-- the file stands there and its text was printed
+pub done_printed : (result : Status) (count : ℕ) (name : List ℕ) (made entries : List Entry) (old new : Option Files) (left before now : Option (List ℕ)) (faults counted : ℕ)
+    → IsPrinted result Done (done_text count) before now faults counted → count ≡ length made → made ≡ entries
+    → HoldsWritten name made old new → left ≡ Some [] → IsFault result ⊎ Wrote result name entries old new left before now
+done_printed result count name made entries old new left before now faults counted (inl whole) counts same file read =
+    inr (record {
+      done = whole.ends;
+      file = subst (λ (es : List Entry). HoldsWritten name es old new) same file;
+      read = read;
+      printed = whole.printed ∙ ap (λ n. append_known before (done_text n)) (counts ∙ ap length same);
+    })
+done_printed result count name made entries old new left before now faults counted (inr short) counts same file read = inl short.ends
+
+-- a refusal was printed
+pub refusal_printed : (result : Status) (some refusal : Refusal) (before now : Option (List ℕ)) (faults counted : ℕ)
+    → IsPrinted result Input (refusal_text some) before now faults counted → some ≡ refusal
+    → IsFault result ⊎ ((result ≡ Input) × (now ≡ append_known before (refusal_text refusal)))
+refusal_printed result some refusal before now faults counted (inl whole) same =
+    inr (whole.ends, whole.printed ∙ ap (λ (r : Refusal). append_known before (refusal_text r)) same)
+refusal_printed result some refusal before now faults counted (inr short) same = inl short.ends
+
+-- the name that the words give is one
+pub named : (some name : List ℕ) (given : Option (List ℕ)) → Some some ≡ given → given ≡ Some name → some ≡ name
+named some name given a b = let both = a ∙ b in cc

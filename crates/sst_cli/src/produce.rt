@@ -1,0 +1,38 @@
+ghost use Rattle.std.specs.Prelude.{◌≡◌, ◌⊎◌, ℕ, ◌≤◌, List, [], Option, Some, Ok, Err, IfOk};
+ghost use Rattle.sst_cli.specs.Faults.{Rose};
+ghost use Rattle.sst_cli.specs.Reading.{read_input};
+ghost use Rattle.sst_cli.specs.Produced.{HasProduced};
+ghost use Rattle.sst_cli.specs.Run.{ChangesOnly};
+ghost use Rattle.sst_cli.specs.declared.refusal.Refusal.{Refusal};
+
+use std::alloc::Global;
+
+use crate::bbt_writer::BbtWriter;
+use crate::device::folder::{DevStop, Folder};
+use crate::device::stream::Intake;
+use crate::reading::{InputStop, add_lines};
+
+/// Begins the named file, reads the input to its end, and writes the file of its entries. Answers how many there
+/// are.
+pub fn produce<F: Folder, I: Intake>(
+    alloc: Global,
+    name: &str,
+    files: &mut F,
+    input: &mut I,
+) -> Result<u64, InputStop>
+    ensures ok { IfOk result (λ count. HasProduced count name.now (F.held files.old) (F.held files.new)
+        (I.left input.old) (I.left input.new)) }
+    ensures refused { (refusal : Refusal) → result ≡ Err (InputStop.Refused refusal)
+        → (text : List ℕ) → I.left input.old ≡ Some text → read_input text ≡ Err refusal }
+    ensures others { ChangesOnly name.now (F.held files.old) (F.held files.new) }
+    ensures failed { result ≡ Err (InputStop.Device DevStop.Failed) → Rose (F.faults files.old) (F.faults files.new)
+        ⊎ Rose (I.faults input.old) (I.faults input.new) }
+{
+    files.begin(name)?;
+    let mut writer = BbtWriter::new(alloc)?;
+    let mut file = Vec::new(alloc);
+    add_lines(alloc, &mut writer, input, &mut file)?;
+    let count = writer.finish(&mut file)?;
+    files.add(name, &file)?;
+    Ok(count)
+}
