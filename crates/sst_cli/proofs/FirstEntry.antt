@@ -1,5 +1,5 @@
 -- The one entry of a list is never refused, when it is within the limits of each entry alone.
-use Rattle.std.proofs.Common.{◌≡◌, ℕ, ◌+◌, ◌^◌, ◌<◌, ◌≤◌, Bool, true, false, cond, nat_lt, List, [], ◌∷◌, ◌++◌, length, subst, Option, Some, None, refl, sym, ap, ◌∙◌, arith, rules}
+use Rattle.std.proofs.Common.{◌≡◌, ℕ, ◌+◌, ◌^◌, List, [], ◌∷◌, ◌++◌, length, subst, Some, None, refl, sym, ap, ◌∙◌, arith}
 use Rattle.std.proofs.lemmas.Bool.{le-ltb}
 use Rattle.sst_key.specs.declared.entries.Entry.{Entry}
 use Rattle.sst_key.specs.declared.faults.WriteFault.{WriteFault}

@@ -1,13 +1,12 @@
 -- What one call on a folder makes of what another left.
-use Rattle.std.proofs.Common.{◌≡◌, ◌⊎◌, ℕ, ◌+◌, ◌-◌, ◌^◌, ◌≤◌, min, List, [], ◌∷◌, ◌++◌, length, take, Bool, true, false, cond, IsTrue, nat_lt, Option, None, Some, refl, sym, ap, ◌∙◌, inl, inr, subst, arith}
-use Rattle.std.specs.Ordering.{nat_cmp, eq_by_cmp, is_eq}
-use Rattle.std.specs.Cmp.Lexicographic.{slice_cmp, nat_list_cmp_total}
+use Rattle.std.proofs.Common.{◌≡◌, ◌⊎◌, ℕ, ◌≤◌, List, [], ◌++◌, length, Bool, false, cond, IsTrue, Option, None, Some, refl, sym, ap, ◌∙◌, inl, inr, arith}
+use Rattle.std.specs.Ordering.{is_eq}
+use Rattle.std.specs.Cmp.Lexicographic.{nat_list_cmp_total}
 use Rattle.std.specs.FinMap.{get, insert, get-insert}
 use Rattle.std.proofs.lemmas.Bool.{le-ltb, false≢true}
 use Rattle.sst_key.proofs.KeyParts.{slice_cmp-same}
 use Rattle.sst_cli.specs.Folder.{Files, put_file, edit_file, changed_file, misses, ends_before}
 use Rattle.sst_cli.specs.Faults.{Rose}
-use Rattle.sst_cli.specs.Run.{ChangesOnly}
 use Rattle.sst_cli.proofs.Maps.{insert-insert}
 
 -- the file that was put is there

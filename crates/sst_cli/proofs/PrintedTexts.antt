@@ -1,13 +1,11 @@
 -- What was printed of a text, and which text a `write` has.
-use Rattle.std.proofs.Common.{◌≡◌, ◌⊎◌, ℕ, ◌+◌, ◌≤◌, List, [], ◌∷◌, ◌++◌, length, take, Option, None, Some, Result, Ok, Err, refl, sym, ap, ◌∙◌, inl, inr, arith}
-use Rattle.std.proofs.lemmas.List.{take_all, append-nil}
-use Rattle.std.specs.Io.KnownBytes.{append_known}
+use Rattle.std.proofs.Common.{◌≡◌, ℕ, List, [], Option, None, Some, Result, Err, refl, sym, ap, inl, inr}
+use Rattle.std.proofs.lemmas.List.{append-nil}
 use Rattle.sst_key.specs.declared.entries.Entry.{Entry}
 use Rattle.sst_key.specs.declared.entries.Kind.TheVariants.{Deletion}
 use Rattle.sst_cli.specs.Reading.{read_input, refused_at}
-use Rattle.sst_cli.specs.Refusals.{refusal_text}
-use Rattle.sst_cli.specs.Run.{IsTextOf, IsFault, text_for, done_text}
-use Rattle.sst_cli.specs.Printed.{IsWhole, IsCutShort, IsPrinted, Prints}
+use Rattle.sst_cli.specs.Run.{IsTextOf, IsFault, text_for}
+use Rattle.sst_cli.specs.Printed.{IsPrinted, Prints}
 use Rattle.sst_cli.specs.declared.refusal.Refusal.{Refusal}
 use Rattle.sst_cli.specs.declared.program.Status.{Status}
 

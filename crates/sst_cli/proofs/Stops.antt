@@ -1,9 +1,9 @@
 -- Which stop a call passed on.
-use Rattle.std.proofs.Common.{◌≡◌, ℕ, Result, Ok, Err, refl, sym, ap, ◌∙◌}
+use Rattle.std.proofs.Common.{◌≡◌, ℕ, Result, Err, sym, ap, ◌∙◌}
 use Rattle.sst_cli.specs.declared.device.folder.DevStop.{DevStop}
-use Rattle.sst_cli.specs.declared.device.folder.DevStop.TheVariants.{Failed, Memory}
+use Rattle.sst_cli.specs.declared.device.folder.DevStop.TheVariants.{Failed}
 use Rattle.sst_cli.specs.declared.reading.InputStop.{InputStop}
-use Rattle.sst_cli.specs.declared.reading.InputStop.TheVariants.{Refused, Device}
+use Rattle.sst_cli.specs.declared.reading.InputStop.TheVariants.{Device}
 
 -- a stop that was passed on as a failure was one
 pub given_stop : (result : Result ℕ InputStop) (passed : InputStop) (stop : DevStop) → result ≡ Err passed → passed ≡ Device stop

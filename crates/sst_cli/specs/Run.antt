@@ -1,6 +1,6 @@
 -- What a run of the program comes to: the text that it prints, the status that it ends with, and what it leaves in
 -- the folder.
-use Rattle.std.specs.Prelude.{◌≡◌, ◌⊎◌, ℕ, List, [], ◌∷◌, ◌++◌, codes, length, Option, Some, None, Result, Ok, Err}
+use Rattle.std.specs.Prelude.{◌≡◌, ◌⊎◌, ℕ, List, [], ◌++◌, codes, length, Option, Some, None, Result, Ok, Err}
 use Rattle.std.specs.Fmt.{decimal}
 use Rattle.std.specs.Io.KnownBytes.{append_known}
 use Rattle.sst_key.specs.declared.entries.Entry.{Entry}
@@ -10,7 +10,7 @@ use Rattle.sst_cli.specs.Refusals.{refusal_text}
 use Rattle.sst_cli.specs.Written.{Written}
 use Rattle.sst_cli.specs.declared.refusal.Refusal.{Refusal}
 use Rattle.sst_cli.specs.declared.program.Status.{Status}
-use Rattle.sst_cli.specs.declared.program.Status.TheVariants.{Done, Usage, Input, File, Exhausted, Device, Memory}
+use Rattle.sst_cli.specs.declared.program.Status.TheVariants.{Done, Device, Memory}
 
 -- the line for words that are no command
 abbrev pub usage_text : List ℕ

@@ -5,14 +5,13 @@ ghost use Rattle.sst_cli.specs.Produced.{IsProduced};
 ghost use Rattle.sst_cli.specs.Run.{ChangesOnly};
 ghost use Rattle.sst_cli.specs.Written.{Written, IsInLimits};
 
-use sst_key::{Entry, EntryView};
-use sst_num::{Memory, Refused};
-use std::alloc::Global;
-
 use crate::bbt_writer::BbtWriter;
 use crate::device::folder::{DevStop, Folder};
 use crate::device::stream::Intake;
 use crate::reading::{InputStop, read_entry};
+use sst_key::{Entry, EntryView};
+use sst_num::{Memory, Refused};
+use std::alloc::Global;
 
 /// Appends the file of one entry to `file`, which is empty, and answers how many entries it has.
 fn write_table(alloc: Global, entry: &Entry, file: &mut Vec<u8>) -> Result<u64, Memory>

@@ -10,16 +10,14 @@ ghost use Rattle.sst_cli.specs.declared.refusal.Refusal.{Refusal};
 ghost use Rattle.sst_cli.specs.Run.{IsFault, IsTextOf, ChangesOnly, HoldsWritten, Wrote, usage_text, done_text, text_for};
 ghost use Rattle.sst_cli.specs.Printed.{IsPrinted, Prints};
 
-use sst_num::Memory;
-use std::alloc::Global;
-
 use crate::device::folder::{DevStop, Folder};
-
 use crate::device::stream::{Intake, Sink, put_all};
 use crate::produce::produce;
 use crate::reading::InputStop;
 use crate::refusal::{Refusal, refusal_line};
 use crate::words::out_name;
+use sst_num::Memory;
+use std::alloc::Global;
 
 /// How a run of the program ends. A number stands for each, from 0 on in this order.
 #[derive(Clone, Copy, Debug, PartialEq, Eq)]
@@ -75,10 +73,10 @@ fn write<F: Folder, I: Intake, O: Sink>(
 ) -> Status
     ensures written { (text : List ℕ) (e : Entry) → I.left input.old ≡ Some text → read_input text ≡ Ok e
         → IsFault result ⊎ Wrote result name.now (e ∷ []) (F.held files.old) (F.held files.new) (I.left input.new)
-            (O.written out.old) (O.written out.new) }
+        (O.written out.old) (O.written out.new) }
     ensures refused { (text : List ℕ) (refusal : Refusal) → I.left input.old ≡ Some text → read_input text ≡ Err refusal
         → IsFault result ⊎ ((result ≡ Status.Input)
-            × (O.written out.new ≡ append_known (O.written out.old) (refusal_text refusal))) }
+        × (O.written out.new ≡ append_known (O.written out.old) (refusal_text refusal))) }
     ensures printed { (text : List ℕ) × IsTextOf (Some name.now) (I.left input.old) text
         × Prints result text (O.written out.old) (O.written out.new) }
     ensures ends { (result ≡ Status.Done) ⊎ ((result ≡ Status.Input) ⊎ IsFault result) }
@@ -126,7 +124,7 @@ pub fn run<F: Folder, I: Intake, O: Sink>(
     // Words that are no command: their whole text is printed, and nothing else is touched.
     ensures usage { line.out_name (map string_bytes words.now) ≡ None
         → IsFault result ⊎ ((result ≡ Status.Usage)
-            × (O.written out.new ≡ append_known (O.written out.old) usage_text)) }
+        × (O.written out.new ≡ append_known (O.written out.old) usage_text)) }
     ensures untouched { line.out_name (map string_bytes words.now) ≡ None
         → (files.new ≡ files.old) × (input.new ≡ input.old) }
 
@@ -134,13 +132,13 @@ pub fn run<F: Folder, I: Intake, O: Sink>(
     ensures written { (name text : List ℕ) (e : Entry) → line.out_name (map string_bytes words.now) ≡ Some name
         → I.left input.old ≡ Some text → read_input text ≡ Ok e
         → IsFault result ⊎ Wrote result name (e ∷ []) (F.held files.old) (F.held files.new) (I.left input.new)
-            (O.written out.old) (O.written out.new) }
+        (O.written out.old) (O.written out.new) }
 
     // An input that is refused: its whole text is printed.
     ensures refused { (name text : List ℕ) (refusal : Refusal) → line.out_name (map string_bytes words.now) ≡ Some name
         → I.left input.old ≡ Some text → read_input text ≡ Err refusal
         → IsFault result ⊎ ((result ≡ Status.Input)
-            × (O.written out.new ≡ append_known (O.written out.old) (refusal_text refusal))) }
+        × (O.written out.new ≡ append_known (O.written out.old) (refusal_text refusal))) }
 
     // With any input: which statuses there are, that the whole text is printed but for a fault, and its cause.
     ensures usage_only { result ≡ Status.Usage → line.out_name (map string_bytes words.now) ≡ None }

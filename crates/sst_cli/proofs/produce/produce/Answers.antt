@@ -1,6 +1,5 @@
-use Rattle.std.proofs.Common.{◌≡◌, ℕ, List, [], ◌∷◌, ◌++◌, take, Err, sym, ap, ◌∙◌, inl, inr, arith}
+use Rattle.std.proofs.Common.{take, Err, ap, inl, inr}
 use Rattle.std.proofs.lemmas.Result.{err_from_is_err_and}
-use Rattle.sst_cli.specs.Written.{Written}
 use Rattle.sst_cli.proofs.FolderLaws.{appended_to_new, append_cause}
 use Rattle.sst_cli.proofs.Stops.{given_stop}
 use Rattle.sst_cli.proofs.produce.produce.Goals as goal

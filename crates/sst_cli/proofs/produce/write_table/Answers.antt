@@ -1,6 +1,5 @@
-use Rattle.std.proofs.Common.{◌≡◌, ℕ, List, [], ◌∷◌, ◌++◌, length, sym, ap, ◌∙◌, inr, subst, arith}
+use Rattle.std.proofs.Common.{[], inr}
 use Rattle.std.proofs.lemmas.Result.{IfOk-weaker}
-use Rattle.sst_cli.specs.Written.{Written}
 use Rattle.sst_cli.proofs.FirstEntry.{not_refused, same_entry, only_written}
 use Rattle.sst_cli.proofs.produce.write_table.Goals as goal
 
@@ -22,5 +21,5 @@ returns-in-Ok c =
     let same = same_entry entry c.as_slice.result.now c.as_slice-2.result.now c.as_slice.ensures c.as_slice-2.ensures in
     let added = c.in-Ok.ensures.ok [] [] c.in_ok-writer.ensures in
     IfOk-weaker c.finish.result _ _ (λ count ends.
-      let last = ends _ _ added.2 in
-      only_written entry _ c.args.file.now.items c.add.new.out.items c.finish.new.out.items added.0 last.0 count same c.requires.empty added.1 last.1 last.2 last.3) c.finish.ensures.written
+    let last = ends _ _ added.2 in
+    only_written entry _ c.args.file.now.items c.add.new.out.items c.finish.new.out.items added.0 last.0 count same c.requires.empty added.1 last.1 last.2 last.3) c.finish.ensures.written

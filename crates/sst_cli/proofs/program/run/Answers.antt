@@ -1,5 +1,4 @@
-use Rattle.std.proofs.Common.{◌≡◌, ℕ, List, take, map, Option, None, Some, refl, sym, ap, ◌∙◌, subst}
-use Rattle.std.specs.Io.KnownBytes.{append_known}
+use Rattle.std.proofs.Common.{ℕ, List, Option, refl, subst}
 use Rattle.sst_cli.specs.Run.{IsTextOf, usage_text}
 use Rattle.sst_cli.proofs.PrintedTexts.{some_printed}
 use Rattle.sst_cli.proofs.program.run.Goals as goal

@@ -1,6 +1,5 @@
-use Rattle.std.proofs.Common.{◌≡◌, ℕ, List, take, Option, None, Some, Ok, Err, refl, sym, ap, ◌∙◌, subst}
-use Rattle.std.specs.Io.KnownBytes.{append_known}
-use Rattle.sst_cli.specs.Run.{IsTextOf, text_for, done_text}
+use Rattle.std.proofs.Common.{Ok, Err, ap}
+use Rattle.sst_cli.specs.Run.{text_for, done_text}
 use Rattle.sst_cli.specs.Refusals.{refusal_text}
 use Rattle.sst_cli.proofs.PrintedTexts.{some_printed, none_printed, text_that_says, some_text, some_entry}
 use Rattle.sst_cli.proofs.program.write.Goals as goal
