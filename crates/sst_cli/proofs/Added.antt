@@ -1,5 +1,5 @@
 -- What a writer keeps, with an entry more.
-use Rattle.std.proofs.Common.{◌≡◌, ◌⊎◌, inl, inr, ℕ, ◌+◌, ◌*◌, ◌^◌, ◌<◌, ◌≤◌, Bool, true, false, not, nat_lt, if◌then◌else◌, List, [], ◌∷◌, ◌++◌, length, Option, Some, None, All, refl, sym, ap, ◌∙◌, subst, length-append, arith}
+use Rattle.std.proofs.Common.{◌≡◌, inl, inr, ℕ, ◌+◌, ◌*◌, ◌^◌, ◌<◌, ◌≤◌, Bool, true, false, not, nat_lt, if◌then◌else◌, List, [], ◌∷◌, ◌++◌, length, Some, None, All, refl, sym, ap, ◌∙◌, subst, arith}
 use Rattle.std.proofs.lemmas.Bool.{ltb-false}
 use Rattle.std.proofs.lemmas.List.Elements.{All-head, All-tail}
 use Rattle.std.proofs.lemmas.List.Sums.{sum_by-cons}
@@ -7,13 +7,12 @@ use Rattle.std.specs.Ordering.{is_lt}
 use Rattle.std.specs.declared.cmp.Ordering.{Ordering}
 use Rattle.std.specs.declared.cmp.Ordering.TheVariants.{Less, Equal, Greater}
 use Rattle.sst_key.specs.declared.entries.Entry.{Entry}
-use Rattle.sst_key.specs.declared.faults.WriteFault.{WriteFault}
 use Rattle.sst_key.specs.declared.faults.WriteFault.TheVariants.{NotIncreasing, KeyLong, ValueLong, Heavy}
 use Rattle.sst_key.specs.Entry.{key_of, weight, entry_weight}
 use Rattle.sst_key.specs.InternalKey.{internal_cmp}
 use Rattle.sst_block.specs.declared.row_form.RowForm.TheVariants.{Entries}
 use Rattle.sst_block.specs.declared.builder.BlockBuilder.{BlockBuilder}
-use Rattle.sst_block.specs.Block.{Row, IsRow, AreOrdered}
+use Rattle.sst_block.specs.Block.{Row, AreOrdered}
 use Rattle.sst_block.specs.Builder.{Holds, CanAdd, last_key}
 use Rattle.sst_block.specs.Chosen.{block_of}
 use Rattle.sst_block.proofs.Steps.{last_key-more}

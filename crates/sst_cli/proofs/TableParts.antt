@@ -1,5 +1,5 @@
 -- How the parts of a block-based file are put together.
-use Rattle.std.proofs.Common.{◌≡◌, ℕ, ◌+◌, ◌-◌, ◌^◌, ◌<◌, ◌≤◌, false, List, [], ◌∷◌, ◌++◌, length, All, Option, Some, None, refl, sym, ap, ◌∙◌, subst, length-append, append_assoc, sum_by, arith}
+use Rattle.std.proofs.Common.{◌≡◌, ℕ, ◌+◌, ◌-◌, ◌^◌, ◌<◌, false, List, [], ◌∷◌, ◌++◌, length, All, Option, Some, None, refl, sym, ap, ◌∙◌, subst, length-append, append_assoc, sum_by, arith}
 use Rattle.std.proofs.lemmas.List.Elements.{All-head}
 use Rattle.std.proofs.lemmas.List.Sums.{sum_by-cons}
 use Rattle.sst_num.specs.declared.block_handle.Handle.{Handle}
@@ -26,7 +26,7 @@ pub index_takes : (b : BlockBuilder) (key value : List ℕ) (place : Option Hand
 index_takes b key value place handle holds there rows is =
     let row : Row = record { key = key; value = handle_spelling handle } in
     let fits : IsRow (Index false false) row =
-      All-head (IsRow (Index false false)) row [] (subst (λ p. All (IsRow (Index false false)) (index_rows_by p key)) there rows) in
+    All-head (IsRow (Index false false)) row [] (subst (λ p. All (IsRow (Index false false)) (index_rows_by p key)) there rows) in
     let long = length-append (varint handle.offset) (varint handle.size) in
     let first = length-varint handle.offset in
     let second = length-varint handle.size in
@@ -95,7 +95,7 @@ pub table_put : (old first second third new : List ℕ) (entries : List Entry) (
 unfolding table_of
 table_put old first second third new entries start last rows names index metaindex ended =
     let index_made : rows ≡ index_block entries =
-      ended.index_is ∙ ap (λ (r : List Row). block_of 1 r) (index_rows-at entries ended.place last ended.place_is ended.last_is) in
+    ended.index_is ∙ ap (λ (r : List Row). block_of 1 r) (index_rows-at entries ended.place last ended.place_is ended.last_is) in
     let first_long : length first ≡ length old + length (data_part entries) = ap length ended.blocks ∙ length-append old (data_part entries) in
     let second_long : length second ≡ length first + (length rows + 5) = ap length ended.index_put ∙ length-append first (frame_of rows) ∙ ap (λ (n : ℕ). length first + n) (length-frame rows) in
     let same_long : length rows ≡ length (index_block entries) = ap length index_made in
@@ -103,6 +103,6 @@ table_put old first second third new entries start last rows names index metaind
     let index_at : index ≡ index_handle entries = handle_at index _ _ _ _ ended.index_at (omega arith) same_long in
     let names_at : metaindex ≡ metaindex_handle entries = handle_at metaindex _ _ _ _ ended.names_at (omega arith) (ap length ended.names_is) in
     let footer : new ≡ third ++ footer_of (metaindex_handle entries) (index_handle entries) =
-      ended.footer ∙ ap (λ h. third ++ footer_of h index) names_at ∙ ap (λ h. third ++ footer_of (metaindex_handle entries) h) index_at in
+    ended.footer ∙ ap (λ h. third ++ footer_of h index) names_at ∙ ap (λ h. third ++ footer_of (metaindex_handle entries) h) index_at in
     joined_four old (data_part entries) (frame_of (index_block entries)) (frame_of metaindex_block) _ first second third new
     ended.blocks (ended.index_put ∙ ap (λ (l : List ℕ). first ++ frame_of l) index_made) (ended.names_put ∙ ap (λ (l : List ℕ). second ++ frame_of l) ended.names_is) footer

@@ -1,13 +1,13 @@
 //! The program over the outside.
 #![tactic(auto)]
 
-pub mod device;
+mod bbt_writer;
 mod cuts;
+pub mod device;
 mod entry_line;
 mod footer;
 pub mod laws;
 mod lines;
 mod reading;
 mod refusal;
-mod bbt_writer;
 mod table_parts;

@@ -44,7 +44,11 @@ pub fn put_block(out: &mut Vec<u8>, start: usize, block: &[u8]) -> Result<Handle
 ///
 /// Where memory runs out, `out` holds its old bytes followed by any.
 /// RocksDB: `BlockBasedTableBuilder::Flush` in table/block_based/block_based_table_builder.cc.
-pub fn put_data(out: &mut Vec<u8>, count: u64, block: BlockBuilder) -> Result<Option<Handle>, Memory>
+pub fn put_data(
+    out: &mut Vec<u8>,
+    count: u64,
+    block: BlockBuilder,
+) -> Result<Option<Handle>, Memory>
     ensures handle { IfOk result (λ place. (entries : List Entry) → count ≡ length entries
         → Holds block Entries 16 (rows_of entries) → place ≡ data_of entries) }
     ensures bytes { OnOk result ((entries : List Entry) → count ≡ length entries

@@ -1,4 +1,4 @@
-use Rattle.std.proofs.Common.{◌≡◌, ap, ◌∙◌, false, List, [], ℕ, ◌++◌}
+use Rattle.std.proofs.Common.{ap, ◌∙◌, false, List, [], ℕ, ◌++◌}
 use Rattle.std.proofs.lemmas.Result.{IfOk-weaker}
 use Rattle.sst_num.specs.Spelling.{handle_spelling}
 use Rattle.sst_block.specs.declared.row_form.RowForm.TheVariants.{Index}
@@ -19,5 +19,5 @@ returns-in_ok-add-in-Some c =
     let spelled = c.deref.ensures.value ∙ c.in_ok-put_handle-in-Some.ensures.ok ∙ ap (λ (l : List ℕ). l ++ handle_spelling c.in-Some.handle) c.new-value.ensures.items in
     IfOk-weaker c.finish-in-Some.result _ _
     (λ block exact. index_one block c.args.last.now _ c.args.place c.in-Some.handle c.in-Some.is spelled
-      (exact (Index false false) 1 _ (c.in_ok-add-in-Some.ensures.ok (Index false false) 1 [] c.in_ok-block.ensures)))
+    (exact (Index false false) 1 _ (c.in_ok-add-in-Some.ensures.ok (Index false false) 1 [] c.in_ok-block.ensures)))
     c.finish-in-Some.ensures.exact

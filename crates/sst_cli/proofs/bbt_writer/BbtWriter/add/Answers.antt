@@ -5,9 +5,11 @@ use Rattle.sst_cli.specs.After.{After}
 use Rattle.sst_cli.proofs.bbt_writer.BbtWriter.add.Goals as goal
 
 pub returns-in-Ok-clause-ok : goal.returns-in-Ok-clause-ok
-returns-in-Ok-clause-ok c = λ entries bytes a.
-    ([], sym (append-nil c.args.out.now.items),
-    subst (λ (b : List ℕ). After c.put.new.self (entries ++ entry_of c.args.e ∷ []) b) (sym (append-nil bytes)) (c.in-Ok.ensures.ok entries bytes a))
+returns-in-Ok-clause-ok c = λ entries bytes a. (
+  [],
+  sym (append-nil c.args.out.now.items),
+  subst (λ (b : List ℕ). After c.put.new.self (entries ++ entry_of c.args.e ∷ []) b) (sym (append-nil bytes)) (c.in-Ok.ensures.ok entries bytes a),
+)
 
 pub returns-in-Err-Cause-clause-refused : goal.returns-in-Err-Cause-clause-refused
 returns-in-Err-Cause-clause-refused c = λ fault e entries bytes a.

@@ -1,4 +1,4 @@
-use Rattle.std.proofs.Common.{◌≡◌, inl, inr, ◌∙◌, sym, subst, List, ℕ, ◌++◌, arith}
+use Rattle.std.proofs.Common.{inl, inr, ◌∙◌, sym, subst, List, ℕ, ◌++◌, arith}
 use Rattle.std.proofs.lemmas.Result.{err_from_is_err_and}
 use Rattle.sst_cli.specs.Written.{Written, table_of}
 use Rattle.sst_cli.proofs.Stands.{table_is_written}
@@ -22,20 +22,20 @@ returns-in_err-put_footer-clause-err c =
 pub returns-clause-written : goal.returns-clause-written
 returns-clause-written c = λ entries bytes a.
     let put = table_put c.args.out.now.items _ _ _ c.put_footer.new.out.items entries c.len-start.result c.deref.result.now c.as_slice.result.now c.as_slice-2.result.now c.in_ok-index.index c.in_ok-metaindex.metaindex
-      (record {
-        place = c.in_ok-place.place;
-        start_is = omega arith;
-        last_is = c.deref.ensures.value ∙ a.last;
-        blocks = c.in_ok-place.ensures.bytes entries a.count a.block;
-        place_is = c.in_ok-place.ensures.handle entries a.count a.block;
-        index_is = c.as_slice.ensures ∙ c.in_ok-rows.ensures;
-        index_put = c.in_ok-index.ensures.bytes;
-        index_at = c.in_ok-index.ensures.handle;
-        names_is = c.as_slice-2.ensures ∙ c.in_ok-names.ensures;
-        names_put = c.in_ok-metaindex.ensures.bytes;
-        names_at = c.in_ok-metaindex.ensures.handle;
-        footer = c.in_ok-put_footer.ensures.ok;
-      }) in
+    (record {
+      place = c.in_ok-place.place;
+      start_is = omega arith;
+      last_is = c.deref.ensures.value ∙ a.last;
+      blocks = c.in_ok-place.ensures.bytes entries a.count a.block;
+      place_is = c.in_ok-place.ensures.handle entries a.count a.block;
+      index_is = c.as_slice.ensures ∙ c.in_ok-rows.ensures;
+      index_put = c.in_ok-index.ensures.bytes;
+      index_at = c.in_ok-index.ensures.handle;
+      names_is = c.as_slice-2.ensures ∙ c.in_ok-names.ensures;
+      names_put = c.in_ok-metaindex.ensures.bytes;
+      names_at = c.in_ok-metaindex.ensures.handle;
+      footer = c.in_ok-put_footer.ensures.ok;
+    }) in
     let file : Written (bytes ++ table_of entries) entries =
-      subst (λ (b : List ℕ). Written (b ++ table_of entries) entries) (sym a.none) (table_is_written entries a.fits) in
+    subst (λ (b : List ℕ). Written (b ++ table_of entries) entries) (sym a.none) (table_is_written entries a.fits) in
     (table_of entries, put, file, a.count)

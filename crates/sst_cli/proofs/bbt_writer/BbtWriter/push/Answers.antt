@@ -1,4 +1,4 @@
-use Rattle.std.proofs.Common.{◌∙◌, ap, refl, sym, List, ℕ, [], ◌∷◌, length, length-append, arith}
+use Rattle.std.proofs.Common.{◌∙◌, ap, refl, sym, [], ◌∷◌, length-append, arith}
 use Rattle.sst_key.specs.declared.entries.Entry.{Entry}
 use Rattle.sst_key.specs.Entry.{entry_of}
 use Rattle.sst_block.specs.declared.row_form.RowForm.TheVariants.{Entries}
