@@ -1,16 +1,15 @@
 -- What a builder that holds some rows gives its calls.
-use Rattle.std.proofs.Common.{◌≡◌, ℕ, ◌+◌, ◌*◌, ◌^◌, ◌<◌, ◌≤◌, Bool, true, false, List, [], ◌∷◌, ◌++◌, length, length-append, refl, sym, ap, ◌∙◌, subst, arith, rules, All}
+use Rattle.std.proofs.Common.{◌≡◌, ℕ, ◌+◌, ◌*◌, ◌^◌, ◌<◌, ◌≤◌, List, [], ◌∷◌, ◌++◌, length, length-append, sym, ap, ◌∙◌, subst, arith}
 use Rattle.std.specs.List.{flat_map}
 use Rattle.std.proofs.lemmas.List.Elements.{All-nil, All-push}
 use Rattle.sst_num.specs.Spelling.{fixed}
 use Rattle.sst_block.specs.declared.row_form.RowForm.{RowForm}
-use Rattle.sst_block.specs.declared.builder.BlockBuilder.{BlockBuilder}
-use Rattle.sst_block.specs.Block.{Row, Block, Spelled, common, row_spelling, restarts_spelling, AreOrdered, IsRow}
+use Rattle.sst_block.specs.Block.{Row, Block, Spelled, row_spelling, restarts_spelling, AreOrdered, IsRow}
 use Rattle.sst_block.specs.Chosen.{restarts_of, block_of}
-use Rattle.sst_block.specs.Builder.{last_key, spelled_of, MayStand, Keeps, IsReady, Holds, AwaitsRow, Takes}
+use Rattle.sst_block.specs.Builder.{spelled_of, MayStand, Keeps}
 use Rattle.sst_block.proofs.BlockLaws.{block_of_is_block}
 use Rattle.sst_block.proofs.Steps.{rows_spelling-more, length-restarts, value-le}
-use Rattle.sst_block.proofs.Kept.{Keeps-none, length-block, spelled-more, IsReady-room, IsReady-full, Keeps-more, same_block, same_order}
+use Rattle.sst_block.proofs.Kept.{Keeps-none, length-block, spelled-more, same_block, same_order}
 
 -- what a builder without rows keeps
 pub Keeps-new : (interval : ℕ) (bytes restarts last : List ℕ) → bytes ≡ [] → restarts ≡ fixed 4 0 → last ≡ []

@@ -1,19 +1,17 @@
 -- What a builder keeps of its rows, from one call to the next.
-use Rattle.std.proofs.Common.{◌≡◌, ◌≢◌, ◌⊎◌, inl, inr, ℕ, zero, suc, ◌+◌, ◌-◌, ◌*◌, ◌%◌, ◌^◌, ◌==◌, ◌<◌, ◌≤◌, if◌then◌else◌, Bool, true, false, List, [], ◌∷◌, ◌++◌, length, length-append, refl, sym, ap, ◌∙◌, subst, append_assoc, arith, All}
+use Rattle.std.proofs.Common.{◌≡◌, ◌≢◌, inl, inr, ℕ, ◌+◌, ◌*◌, ◌%◌, ◌==◌, ◌<◌, ◌≤◌, if◌then◌else◌, List, [], ◌∷◌, ◌++◌, length, length-append, refl, sym, ap, ◌∙◌, append_assoc, arith}
 use Rattle.std.specs.List.{flat_map}
 use Rattle.std.proofs.lemmas.Bool.{cases_lt, eq-eqb, ne_eqb}
 use Rattle.std.proofs.lemmas.List.{append-nil}
-use Rattle.std.proofs.lemmas.List.Elements.{All-append}
 use Rattle.std.proofs.lemmas.Nat.{mod-mul-add}
 use Rattle.std.proofs.Math.Nat.{zero-mod, mul-mod_left}
 use Rattle.sst_num.specs.Spelling.{fixed}
 use Rattle.sst_num.proofs.Fixed.{length-fixed}
 use Rattle.sst_block.specs.declared.row_form.RowForm.{RowForm}
-use Rattle.sst_block.specs.declared.builder.BlockBuilder.{BlockBuilder}
-use Rattle.sst_block.specs.Block.{Row, Spelled, common, row_spelling, restarts_spelling, key_cmp, AreOrdered, IsRow}
-use Rattle.sst_block.specs.Chosen.{chosen, restarts_of, block_of}
-use Rattle.sst_block.specs.Builder.{last_key, spelled_of, Counts, MayStand, Keeps, IsReady, Holds, AwaitsRow, Takes}
-use Rattle.sst_block.proofs.Steps.{length-chosen, length-more, last_key-more, chosen-more, restarts_of-first, restarts_of-full, restarts_of-within, rows_spelling-more, restarts_spelling-more, length-restarts, value-le, ordered-more, ordered-last}
+use Rattle.sst_block.specs.Block.{Row, Spelled, common, row_spelling, key_cmp, AreOrdered}
+use Rattle.sst_block.specs.Chosen.{restarts_of, block_of}
+use Rattle.sst_block.specs.Builder.{last_key, spelled_of, Counts, Keeps, IsReady}
+use Rattle.sst_block.proofs.Steps.{length-chosen, length-more, last_key-more, chosen-more, restarts_of-first, restarts_of-full, restarts_of-within, rows_spelling-more, restarts_spelling-more, ordered-more, ordered-last}
 
 -- what is kept of no rows
 pub Keeps-none : (interval : ℕ) → Keeps interval [] [] (fixed 4 0) [] 1 0
@@ -26,14 +24,14 @@ Keeps-none interval = record {
   begun = λ some. absurd (omega arith);
 }
 
--- the block is what is kept, and the number of restarts
+-- the block of the rows, by what is kept of them
 pub block_of-kept : (interval : ℕ) (rows : List Row) (bytes restarts last : List ℕ) (count since : ℕ)
     → Keeps interval rows bytes restarts last count since → block_of interval rows ≡ (bytes ++ restarts) ++ fixed 4 count
 unfolding block_of
 block_of-kept interval rows bytes restarts last count since k =
     rw (k.bytes_are, k.restarts_are, k.count_is) (sym (append_assoc (flat_map row_spelling (spelled_of interval rows)) (flat_map (fixed 4) (restarts_of interval (spelled_of interval rows))) (fixed 4 (length (restarts_of interval (spelled_of interval rows))))))
 
--- the block is what is kept, the restarts after the rows, and the number of restarts after those
+-- the same, of the lists that the calls leave
 pub block_of-made : (interval : ℕ) (rows : List Row) (bytes restarts last lent joined whole made : List ℕ) (count since : ℕ)
     → Keeps interval rows bytes restarts last count since
     → lent ≡ restarts → joined ≡ bytes ++ lent → whole ≡ joined ++ fixed 4 count → made ≡ whole → made ≡ block_of interval rows
@@ -41,6 +39,7 @@ block_of-made interval rows bytes restarts last lent joined whole made count sin
     is ∙ last_four ∙ ap (λ (l : List ℕ). l ++ fixed 4 count) (join ∙ ap (λ (l : List ℕ). bytes ++ l) same)
     ∙ sym (block_of-kept interval rows bytes restarts last count since k)
 
+-- how long that block is
 pub length-block : (interval : ℕ) (rows : List Row) (bytes restarts last : List ℕ) (count since : ℕ)
     → Keeps interval rows bytes restarts last count since → length (block_of interval rows) ≡ length bytes + length restarts + 4
 length-block interval rows bytes restarts last count since k =
@@ -50,7 +49,7 @@ length-block interval rows bytes restarts last count since k =
     let four = length-fixed 4 count in
     omega (arith, whole, a, b, four)
 
--- no rows: no count since a restart
+-- without rows no group has begun
 none_since : (interval : ℕ) (bytes restarts last : List ℕ) (count since : ℕ) → 1 ≤ interval → Keeps interval [] bytes restarts last count since → since ≡ 0
 none_since interval bytes restarts last count since least k =
     omega (arith, k.counts.whole)
@@ -60,7 +59,7 @@ some_rows : (interval : ℕ) (rows : List Row) (since : ℕ) → 1 ≤ interval 
     → 0 < length (spelled_of interval rows)
 some_rows interval rows since least c full = omega (arith, c.whole, length-chosen interval 0 [] rows)
 
--- the rest of n rows by the group
+-- what is left of n rows over the full groups
 in_group : (interval n since : ℕ) → (c : Counts interval n since) → since < interval → n % interval ≡ since
 in_group interval n since c room = ap (λ m. m % interval) c.whole ∙ mod-mul-add c.groups interval since room
 

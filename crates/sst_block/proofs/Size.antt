@@ -7,7 +7,7 @@ use Rattle.sst_block.specs.Block.{Row, Spelled, IsRow, AreOrdered, common, row_s
 use Rattle.sst_block.specs.Chosen.{chosen, restarts_from, restarts_of, block_of}
 use Rattle.sst_block.specs.declared.row_form.RowForm.{RowForm}
 use Rattle.sst_block.specs.declared.builder.BlockBuilder.{BlockBuilder}
-use Rattle.sst_block.specs.Builder.{row_room, Holds, Takes, CanAdd}
+use Rattle.sst_block.specs.Builder.{row_room, Holds, CanAdd}
 use Rattle.std.proofs.lemmas.List.Sums.{sum_by-cons}
 use Rattle.sst_block.proofs.Steps.{length-chosen, length-restarts}
 

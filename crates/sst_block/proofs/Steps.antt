@@ -1,18 +1,17 @@
 -- What one more row adds to the rows as they are spelled, and to their restarts.
-use Rattle.std.proofs.Common.{◌≡◌, ◌≢◌, ℕ, zero, suc, ◌+◌, ◌-◌, ◌*◌, ◌%◌, ◌==◌, ◌<◌, ◌≤◌, if◌then◌else◌, Bool, true, false, cond, eqb, List, [], ◌∷◌, ◌++◌, length, length-append, drop, refl, sym, ap, ◌∙◌, subst, append_assoc, arith, All}
+use Rattle.std.proofs.Common.{◌≡◌, ◌≢◌, ℕ, suc, ◌+◌, ◌-◌, ◌*◌, ◌%◌, ◌==◌, ◌<◌, ◌≤◌, if◌then◌else◌, List, [], ◌∷◌, ◌++◌, length, length-append, drop, refl, sym, ap, ◌∙◌, append_assoc, arith}
 use Rattle.std.specs.List.{flat_map}
 use Rattle.std.proofs.lemmas.Grind.{flat_map-append}
 use Rattle.std.proofs.lemmas.List.{append-nil}
 use Rattle.std.proofs.lemmas.Bool.{eq-eqb, ne_eqb}
 use Rattle.std.proofs.Math.Nat.{zero-mod}
-use Rattle.std.specs.declared.cmp.Ordering.{Ordering}
 use Rattle.std.specs.declared.cmp.Ordering.TheVariants.{Less}
 use Rattle.sst_num.specs.Spelling.{varint, fixed}
 use Rattle.sst_num.proofs.Fixed.{length-fixed}
 use Rattle.sst_block.specs.declared.row_form.RowForm.{RowForm}
-use Rattle.sst_block.specs.Block.{Row, Spelled, common, row_spelling, restarts_spelling, key_cmp, AreOrdered}
-use Rattle.sst_block.specs.Chosen.{chosen, restarts_from, restarts_of, block_of}
-use Rattle.sst_block.specs.Builder.{last_key, spelled_of}
+use Rattle.sst_block.specs.Block.{Row, Spelled, common, row_spelling, key_cmp, AreOrdered}
+use Rattle.sst_block.specs.Chosen.{chosen, restarts_from, restarts_of}
+use Rattle.sst_block.specs.Builder.{last_key}
 
 pub length-chosen : (interval i : ℕ) (before : List ℕ) (rows : List Row) → length (chosen interval i before rows) ≡ length rows
 length-chosen interval i before [] = refl

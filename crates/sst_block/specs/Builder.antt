@@ -1,6 +1,6 @@
 -- What a builder of a block holds between its calls: the rows that were added, spelled, and what the next row
 -- needs of them. RocksDB: BlockBuilder in table/block_based/block_builder.h.
-use Rattle.std.specs.Prelude.{◌≡◌, ◌⊎◌, ℕ, ◌+◌, ◌*◌, ◌^◌, ◌<◌, ◌≤◌, Bool, true, false, List, [], ◌∷◌, ◌++◌, length, All}
+use Rattle.std.specs.Prelude.{◌≡◌, ◌⊎◌, ℕ, ◌+◌, ◌*◌, ◌^◌, ◌<◌, ◌≤◌, true, false, List, [], ◌∷◌, ◌++◌, length, All}
 use Rattle.std.specs.List.{flat_map}
 use Rattle.sst_num.specs.Spelling.{fixed}
 use Rattle.sst_block.specs.declared.row_form.RowForm.{RowForm}

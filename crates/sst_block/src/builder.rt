@@ -1,4 +1,4 @@
-ghost use Rattle.std.specs.Prelude.{◌≡◌, ℕ, ◌+◌, ◌<◌, ◌≤◌, ◌^◌, ◌++◌, Bool, false, List, [], ◌∷◌, length, take, IfOk, OnOk, OnErr};
+ghost use Rattle.std.specs.Prelude.{◌≡◌, ℕ, ◌<◌, ◌≤◌, ◌^◌, ◌++◌, false, List, [], ◌∷◌, length, take, IfOk, OnOk, OnErr};
 ghost use Rattle.std.specs.Result.{IsErr};
 ghost use Rattle.sst_block.specs.Block.{Row, Block, common, row_spelling};
 ghost use Rattle.sst_block.specs.Builder.{HasNoFlags, HasFailed, Holds, AwaitsRow, Takes, CanAdd};
@@ -11,9 +11,11 @@ use std::alloc::Global;
 
 /// Makes one block of rows that come in order.
 ///
-/// A restart, that is a row with its whole key, is each `interval`-th row; every other row leaves to the row
-/// before it the bytes that their keys have in common at their fronts. After an error each later call answers
-/// the error again. RocksDB: `BlockBuilder` in table/block_based/block_builder.h.
+/// Each `interval`-th row is a restart, that is a row with its whole key; every other row leaves to the row
+/// before it the bytes that their keys have in common at their fronts. A block has less than 2^29 bytes.
+/// After an error the builder is of no more use: `add` and `finish` answer the error again.
+///
+/// RocksDB: `BlockBuilder` in table/block_based/block_builder.h.
 #[derive(Drop)]
 pub struct BlockBuilder {
     /// What the rows are.
@@ -36,6 +38,11 @@ pub struct BlockBuilder {
 
 impl BlockBuilder {
     /// A builder with no row.
+    ///
+    /// `form` says what the rows will be, and `interval`, from 1 to 65,536, how many rows a restart begins.
+    /// `hash` asks for a hash part. For now it is false, and an index form has neither user keys nor delta
+    /// handles. Fails where memory runs out. RocksDB: the constructor of `BlockBuilder` in
+    /// table/block_based/block_builder.cc.
     pub fn new(
         alloc: Global,
         form: RowForm,
@@ -64,6 +71,11 @@ impl BlockBuilder {
     }
 
     /// Adds a row after the others.
+    ///
+    /// The row has the builder's form, with a key of at most 65,544 bytes that is after the last one in the
+    /// order of the form, and the block stays below 2^29 bytes with it. `delta` is what stands in place of the
+    /// value where handles are differences; for now it is not looked at. Fails where memory runs out now or did
+    /// in an earlier call. RocksDB: `BlockBuilder::Add` in table/block_based/block_builder.cc.
     pub fn add(&mut self, key: &[u8], value: &[u8], delta: &[u8]) -> Result<(), Memory>
         requires { CanAdd self.old (record { key = key.now; value = value.now }) }
         ensures ok { OnOk result ((form : forms.RowForm) (interval : ℕ) (rows : List Row)
@@ -86,6 +98,9 @@ impl BlockBuilder {
     }
 
     /// How many bytes the block of the rows so far has. Takes no memory.
+    ///
+    /// Of a builder in which no call has failed. RocksDB: `BlockBuilder::CurrentSizeEstimate` in
+    /// table/block_based/block_builder.h, here the exact number.
     pub fn size_now(&self) -> usize
         requires { (form : forms.RowForm) × (interval : ℕ) × (rows : List Row) × Holds self.now form interval rows }
         ensures { (form : forms.RowForm) (interval : ℕ) (rows : List Row)
@@ -95,6 +110,9 @@ impl BlockBuilder {
     }
 
     /// The block of the rows that were added.
+    ///
+    /// The restarts and their number are put after the rows where these stand. Fails where memory runs out now
+    /// or did in an earlier call. RocksDB: `BlockBuilder::Finish` in table/block_based/block_builder.cc.
     pub fn finish(self) -> Result<Bytes, Memory>
         ensures exact { IfOk result (λ b. (form : forms.RowForm) (interval : ℕ) (rows : List Row)
             → Holds self form interval rows → b ≡ block_of interval rows) }

@@ -1,4 +1,58 @@
-//! Blocks.
+//! Blocks: the unit in which a block-based table file is read and written.
+//!
+//! A block is a list of rows whose keys increase, each with a value. The entries of a table, its index and its
+//! meta blocks are all such lists; what a key and a value are there is the block's [`RowForm`].
+//!
+//! # Layout
+//!
+//! ```text
+//! | row | row | .. | row | restart | .. | restart | number of restarts |
+//!                          4 bytes        4 bytes   4 bytes
+//!
+//! row:  | shared | rest | value length | last bytes of the key | value       |
+//!         varint   varint varint         `rest` bytes            value length
+//! ```
+//!
+//! - The key of a row is the first `shared` bytes of the key of the row before it, and then the `rest` bytes
+//!   that stand in the row.
+//! - A restart is the place in the block, in four bytes, the lowest first, where a row begins that shares
+//!   nothing. A reader can begin there. The first restart is 0, also where the block has no row, and the
+//!   restarts increase.
+//! - The three lengths are varints, in the shortest spelling. The number of restarts takes four bytes, the
+//!   lowest first.
+//!
+//! RocksDB: table/block_based/block_builder.cc (the layout at its top), and the wiki page "Rocksdb
+//! BlockBasedTable Format".
+//!
+//! # An example
+//!
+//! The data block of one entry, whose user key is `a`, whose sequence number is 1, and which sets the value `x`:
+//!
+//! ```text
+//! at  bytes                       what they are
+//!  0  00                          the key shares nothing with a row before it
+//!  1  09                          nine bytes of the key follow
+//!  2  01                          the value has one byte
+//!  3  61                          the user key, a
+//!  4  01 01 00 00 00 00 00 00     the tag, sequence number * 256 + 1
+//! 12  78                          the value, x
+//! 13  00 00 00 00                 the one restart, at 0
+//! 17  01 00 00 00                 there is one restart
+//! ```
+//!
+//! # What is promised
+//!
+//! [`BlockBuilder`] makes exactly one block of given rows: each `interval`-th row is a restart, and every other
+//! row shares all that its key has in common with the key before it, as RocksDB's own builder has it. The
+//! bytes are those of `block_of` (specs/Chosen.antt), and they stand for the rows in the sense of `Block`
+//! (specs/Block.antt), which says what the bytes of any block say, whoever made it. Before each call the
+//! builder knows the length of the block that it would make.
+//!
+//! Where memory runs out a call answers so, and each later call of that builder that can fail answers the same.
+//! No bytes of rows are copied when a block is finished.
+//!
+//! A block with a hash part, and index blocks whose separators are user keys or whose handles are differences,
+//! are not made yet.
 #![tactic(auto)]
 
 mod builder;

@@ -1,9 +1,9 @@
 -- A search for the first place of a byte cuts a text there.
-use Rattle.std.proofs.Common.{◌≡◌, ℕ, zero, suc, ◌+◌, ◌<◌, ◌≤◌, ◌==◌, Bool, true, false, cond, List, [], ◌∷◌, ◌++◌, length, take, drop, slice_index, Option, Some, None, MatchOption, refl, sym, ap, ◌∙◌, length-append, length-take, append_assoc, arith, rules}
+use Rattle.std.proofs.Common.{◌≡◌, ℕ, zero, suc, ◌<◌, ◌==◌, true, false, cond, List, [], ◌∷◌, ◌++◌, length, take, drop, slice_index, Option, Some, None, MatchOption, refl, sym, ap, length-append, length-take, append_assoc, arith}
 use borrow.Author.Tests.{eqb-true, eq-eqb}
 use Rattle.std.proofs.lemmas.List.{append-nil}
 use Rattle.std.specs.Option.{option_map}
-use Rattle.memchr.specs.Find.{IsFirstByte, is_byte, Nowhere, Passes, NoneBefore}
+use Rattle.memchr.specs.Find.{IsFirstByte, is_byte}
 use Rattle.sst_cli.specs.Texts.{cut}
 
 -- no such byte, no cut
@@ -38,19 +38,19 @@ cut-parts byte [] before after e = absurd cc
 cut-parts byte (x ∷ rest) before after e =
     elim (x == byte) as (λ t. (x == byte) ≡ t → ◌≡◌ {A = Option (List ℕ × List ℕ)} (cond t (Some ([], rest)) (option_map (longer x) (cut byte rest))) (Some (before, after)) → (x ∷ rest ≡ before ++ (byte ∷ after)) × (cut byte before ≡ None)) [
       | true ↦ λ is e.
-        let same : x ≡ byte = eqb-true x byte is in
-        let parts : ◌≡◌ {A = List ℕ × List ℕ} ([], rest) (before, after) = cc in
-        let none : before ≡ [] = sym (ap (λ (p : List ℕ × List ℕ). p.0) parts) in
-        let all : rest ≡ after = ap (λ (p : List ℕ × List ℕ). p.1) parts in
-        (rw (none, same, all) refl, rw none refl)
+          let same : x ≡ byte = eqb-true x byte is in
+          let parts : ◌≡◌ {A = List ℕ × List ℕ} ([], rest) (before, after) = cc in
+          let none : before ≡ [] = sym (ap (λ (p : List ℕ × List ℕ). p.0) parts) in
+          let all : rest ≡ after = ap (λ (p : List ℕ × List ℕ). p.1) parts in
+          (rw (none, same, all) refl, rw none refl)
       | false ↦ λ is e. elim (cut byte rest) as (λ o. cut byte rest ≡ o → ◌≡◌ {A = Option (List ℕ × List ℕ)} (option_map (longer x) o) (Some (before, after)) → (x ∷ rest ≡ before ++ (byte ∷ after)) × (cut byte before ≡ None)) [
         | None ↦ λ _ e. absurd cc
         | Some p ↦ λ found e.
-          let parts : ◌≡◌ {A = List ℕ × List ℕ} (longer x p) (before, after) = cc in
-          let first : before ≡ x ∷ p.0 = sym (ap (λ (p : List ℕ × List ℕ). p.0) parts) in
-          let last : p.1 ≡ after = ap (λ (p : List ℕ × List ℕ). p.1) parts in
-          let more = cut-parts byte rest p.0 p.1 found in
-          (rw (first, ← last) (ap (λ (r : List ℕ). x ∷ r) more.0), rw (first, is, more.1) refl)
+            let parts : ◌≡◌ {A = List ℕ × List ℕ} (longer x p) (before, after) = cc in
+            let first : before ≡ x ∷ p.0 = sym (ap (λ (p : List ℕ × List ℕ). p.0) parts) in
+            let last : p.1 ≡ after = ap (λ (p : List ℕ × List ℕ). p.1) parts in
+            let more = cut-parts byte rest p.0 p.1 found in
+            (rw (first, ← last) (ap (λ (r : List ℕ). x ∷ r) more.0), rw (first, is, more.1) refl)
       ] refl e
     ] refl e
 
@@ -60,11 +60,11 @@ pub cut-append_none : (byte : ℕ) (front rest : List ℕ) → cut byte front �
 cut-append_none byte [] rest e = elim (cut byte rest) as (λ o. o ≡ option_map (λ (parts : List ℕ × List ℕ). ([] ++ parts.0, parts.1)) o) [ None ↦ refl | Some p ↦ refl ]
 cut-append_none byte (x ∷ front) rest e =
     elim (x == byte) as (λ t. (x == byte) ≡ t → ◌≡◌ {A = Option (List ℕ × List ℕ)} (cond t (Some ([], front)) (option_map (longer x) (cut byte front))) None
-      → ◌≡◌ {A = Option (List ℕ × List ℕ)} (cond t (Some ([], front ++ rest)) (option_map (longer x) (cut byte (front ++ rest)))) (option_map (λ (parts : List ℕ × List ℕ). (x ∷ front ++ parts.0, parts.1)) (cut byte rest))) [
+    → ◌≡◌ {A = Option (List ℕ × List ℕ)} (cond t (Some ([], front ++ rest)) (option_map (longer x) (cut byte (front ++ rest)))) (option_map (λ (parts : List ℕ × List ℕ). (x ∷ front ++ parts.0, parts.1)) (cut byte rest))) [
       | true ↦ λ is e. absurd cc
       | false ↦ λ is e.
-        let none : cut byte front ≡ None = elim (cut byte front) as (λ o. ◌≡◌ {A = Option (List ℕ × List ℕ)} (option_map (longer x) o) None → o ≡ None) [ None ↦ λ _. refl | Some p ↦ λ e. absurd cc ] e in
-        rw (cut-append_none byte front rest none) (elim (cut byte rest) as (λ o. ◌≡◌ {A = Option (List ℕ × List ℕ)} (option_map (longer x) (option_map (λ (parts : List ℕ × List ℕ). (front ++ parts.0, parts.1)) o)) (option_map (λ (parts : List ℕ × List ℕ). (x ∷ front ++ parts.0, parts.1)) o)) [ None ↦ refl | Some p ↦ refl ])
+          let none : cut byte front ≡ None = elim (cut byte front) as (λ o. ◌≡◌ {A = Option (List ℕ × List ℕ)} (option_map (longer x) o) None → o ≡ None) [ None ↦ λ _. refl | Some p ↦ λ e. absurd cc ] e in
+          rw (cut-append_none byte front rest none) (elim (cut byte rest) as (λ o. ◌≡◌ {A = Option (List ℕ × List ℕ)} (option_map (longer x) (option_map (λ (parts : List ℕ × List ℕ). (front ++ parts.0, parts.1)) o)) (option_map (λ (parts : List ℕ × List ℕ). (x ∷ front ++ parts.0, parts.1)) o)) [ None ↦ refl | Some p ↦ refl ])
     ] refl e
 
 -- a byte is itself

@@ -1,5 +1,5 @@
 -- How a footer is put: its front, zeros, its back.
-use Rattle.std.proofs.Common.{◌≡◌, ℕ, suc, ◌+◌, ◌-◌, ◌<◌, ◌≤◌, List, [], ◌∷◌, ◌++◌, length, take, replicate, refl, sym, ap, ◌∙◌, length-append, append_assoc, arith, rules}
+use Rattle.std.proofs.Common.{◌≡◌, ℕ, ◌+◌, ◌-◌, ◌≤◌, List, [], ◌∷◌, ◌++◌, length, take, replicate, ap, ◌∙◌, length-append, append_assoc, arith}
 use Rattle.std.proofs.lemmas.List.{take_all}
 use Rattle.sst_num.specs.declared.block_handle.Handle.{Handle}
 use Rattle.sst_num.specs.Spelling.{varint, handle_spelling}
@@ -27,8 +27,8 @@ pub padded : (old first second third new : List ℕ) (metaindex index : Handle) 
 padded old first second third new metaindex index start len a b c at long e =
     let front : List ℕ = footer_front metaindex index in
     let whole : third ≡ old ++ front =
-      c ∙ ap (λ (x : List ℕ). x ++ handle_spelling index) (b ∙ ap (λ (x : List ℕ). x ++ handle_spelling metaindex) a ∙ append_assoc old (1 ∷ []) (handle_spelling metaindex))
-      ∙ append_assoc old (1 ∷ handle_spelling metaindex) (handle_spelling index) in
+    c ∙ ap (λ (x : List ℕ). x ++ handle_spelling index) (b ∙ ap (λ (x : List ℕ). x ++ handle_spelling metaindex) a ∙ append_assoc old (1 ∷ []) (handle_spelling metaindex))
+    ∙ append_assoc old (1 ∷ handle_spelling metaindex) (handle_spelling index) in
     let sum = ap length whole ∙ length-append old front in
     let short = length-footer_front metaindex index in
     let all : take (start + 41) third ≡ third = take_all (start + 41) third (omega arith) in

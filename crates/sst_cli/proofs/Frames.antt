@@ -1,8 +1,7 @@
 -- A stored block, in a file and as it is put together.
-use Rattle.std.proofs.Common.{◌≡◌, ℕ, ◌+◌, ◌^◌, ◌≤◌, List, [], ◌∷◌, ◌++◌, length, take, drop, refl, sym, ap, ◌∙◌, append_assoc, arith}
+use Rattle.std.proofs.Common.{◌≡◌, ℕ, ◌+◌, ◌^◌, ◌≤◌, List, [], ◌∷◌, ◌++◌, length, take, drop, refl, ap, ◌∙◌, append_assoc, arith}
 use Rattle.std.proofs.Math.Seq.{take-append_seam, drop-append_seam, drop-append-add}
 use Rattle.sst_num.specs.Spelling.{fixed}
-use Rattle.sst_num.specs.declared.block_handle.Handle.{Handle}
 use Rattle.sst_sums.specs.Sums.{mask, crc32c}
 use Rattle.sst_cli.specs.Framed.{Framed, frame_of, trailer_of, stored_checksum, bytes_at}
 
@@ -19,7 +18,7 @@ unfolding trailer_of
 trailer_checksum block rest = refl
 
 pub frame-framed : (front block rest : List ℕ) (end : ℕ) → length block ≤ 2 ^ 29 → length front + length block + 5 ≤ end
-    → Framed (front ++ (frame_of block ++ rest)) end (record { offset = length front; size = length block; }) block
+    → Framed (front ++ (frame_of block ++ rest)) end (record { offset = length front; size = length block }) block
 frame-framed front block rest end small fits =
     let tail = trailer_of block ++ rest in
     let file = append_assoc block (trailer_of block) rest in
@@ -29,9 +28,9 @@ frame-framed front block rest end small fits =
       limited = small;
       stands = ap (take (length block)) (drop-append_seam front (frame_of block ++ rest) ∙ file) ∙ take-append_seam block tail;
       uncompressed = bytes_at-after front (frame_of block ++ rest) (length block) 1
-        ∙ ap (λ l. take 1 (drop (length block) l)) file ∙ ap (take 1) (drop-append_seam block tail) ∙ trailer_type block rest;
+          ∙ ap (λ l. take 1 (drop (length block) l)) file ∙ ap (take 1) (drop-append_seam block tail) ∙ trailer_type block rest;
       checksum = ap (λ at. bytes_at (front ++ (frame_of block ++ rest)) at 4) last ∙ bytes_at-after front (frame_of block ++ rest) (length block + 1) 4
-        ∙ ap (λ l. take 4 (drop (length block + 1) l)) file ∙ ap (take 4) (drop-append-add block tail 1) ∙ trailer_checksum block rest;
+          ∙ ap (λ l. take 4 (drop (length block + 1) l)) file ∙ ap (take 4) (drop-append-add block tail 1) ∙ trailer_checksum block rest;
     }
 
 framed_part : (before block : List ℕ) → drop (length before) ((before ++ block) ++ 0 ∷ []) ≡ block ++ 0 ∷ []

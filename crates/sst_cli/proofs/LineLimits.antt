@@ -1,8 +1,7 @@
 -- The entry of a line is within the limits of each entry alone.
-use Rattle.std.proofs.Common.{◌≡◌, ℕ, zero, suc, ◌+◌, ◌^◌, ◌<◌, ◌≤◌, ◌&&◌, ◌==◌, Bool, true, false, cond, nat_le, nat_lt, List, [], ◌∷◌, length, Option, Some, None, option_and_then, refl, sym, ap, ◌∙◌, subst, arith, rules}
+use Rattle.std.proofs.Common.{◌≡◌, ℕ, ◌^◌, ◌<◌, ◌&&◌, ◌==◌, Bool, true, false, cond, nat_le, nat_lt, List, [], ◌∷◌, length, Some, None, option_and_then, refl, sym, ap, subst, arith}
 use Rattle.std.proofs.lemmas.Bool.{leb-true, ltb-true}
 use Rattle.std.proofs.lemmas.Option.{option_and_then_some, cond_some}
-use Rattle.sst_key.specs.declared.entries.Kind.{Kind}
 use Rattle.sst_key.specs.declared.entries.Entry.{Entry}
 use Rattle.sst_cli.specs.Texts.{cut, digits_from, in_range, seq_field, kind_field, bytes_field, Fields, fields_of, entry_of_fields, entry_of_line}
 use Rattle.sst_cli.specs.Reading.{within_limits, line_entry}
@@ -37,21 +36,21 @@ fields_of-some : (line : List ℕ) (fields : Fields) → fields_of line ≡ Some
 unfolding fields_of
 fields_of-some line fields e =
     option_and_then_some _ (cut 32 line) fields e (λ a _ ea.
-      option_and_then_some _ (cut 32 a.1) fields ea (λ b _ eb.
-        option_and_then_some _ (cut 32 b.1) fields eb (λ c _ ec.
-          option_and_then_some _ (seq_field b.0) fields ec (λ seq is es.
-            option_and_then_some _ (kind_field c.0) fields es (λ kind _ ek.
-              let made = same_some _ fields ek in
-              let low = seq_field-some b.0 seq is in
-              let same : seq ≡ fields.seq = ap (λ (f : Fields). f.seq) made in
-              omega arith)))))
+    option_and_then_some _ (cut 32 a.1) fields ea (λ b _ eb.
+    option_and_then_some _ (cut 32 b.1) fields eb (λ c _ ec.
+    option_and_then_some _ (seq_field b.0) fields ec (λ seq is es.
+    option_and_then_some _ (kind_field c.0) fields es (λ kind _ ek.
+    let made = same_some _ fields ek in
+    let low = seq_field-some b.0 seq is in
+    let same : seq ≡ fields.seq = ap (λ (f : Fields). f.seq) made in
+    omega arith)))))
 
 entry_of_fields-some : (fields : Fields) (e : Entry) → entry_of_fields fields ≡ Some e → e.seq ≡ fields.seq
 unfolding entry_of_fields
 entry_of_fields-some fields entry e =
     option_and_then_some _ (bytes_field fields.user) entry e (λ user _ eu.
-      option_and_then_some _ (bytes_field fields.value) entry eu (λ value _ ev.
-        sym (ap (λ (f : Entry). f.seq) (same_some _ entry ev))))
+    option_and_then_some _ (bytes_field fields.value) entry eu (λ value _ ev.
+    sym (ap (λ (f : Entry). f.seq) (same_some _ entry ev))))
 
 within_limits-some : (e f : Entry) → within_limits e ≡ Some f → e.seq < 2 ^ 56 → IsInLimits f
 within_limits-some e f is low =
@@ -64,7 +63,7 @@ pub line_entry-limits : (line : List ℕ) (e : Entry) → line_entry line ≡ So
 line_entry-limits line entry e =
     elim (nat_le (length line) 40000000) as (λ t. cond t (option_and_then within_limits (entry_of_line line)) None ≡ Some entry → IsInLimits entry) [
       | true ↦ λ e. option_and_then_some within_limits (entry_of_line line) entry e (λ read is more.
-        option_and_then_some entry_of_fields (fields_of line) read is (λ fields of made.
+          option_and_then_some entry_of_fields (fields_of line) read is (λ fields of made.
           let same = entry_of_fields-some fields read made in
           let low = fields_of-some line fields of in
           within_limits-some read entry more (omega arith)))

@@ -1,19 +1,19 @@
 -- What a look-up and a change in a list of files are to the folder that the list stands for.
-use Rattle.std.proofs.Common.{◌≡◌, ℕ, zero, suc, ◌+◌, ◌<◌, List, [], ◌∷◌, ◌++◌, Bool, true, false, cond, Option, None, Some, refl, sym, ap, ◌∙◌, subst, arith, length, get_or, set, take, drop, map, position, nat_eq, nat_lt, ◌≤◌, IsTrue}
+use Rattle.std.proofs.Common.{◌≡◌, ℕ, zero, suc, ◌+◌, ◌<◌, List, [], ◌∷◌, ◌++◌, true, false, cond, Option, None, Some, refl, sym, ap, ◌∙◌, arith, length, get_or, set, take, drop, map, position, ◌≤◌, IsTrue}
 use Rattle.std.proofs.lemmas.Bool.{le-ltb, lt-ltb}
 use Rattle.std.specs.List.{position_from}
 use Rattle.std.specs.Ordering.{nat_cmp, eq_by_cmp}
-use Rattle.std.specs.Cmp.Lexicographic.{slice_cmp, pointwise, nat_list_cmp_total, texts_ties}
+use Rattle.std.specs.Cmp.Lexicographic.{slice_cmp, nat_list_cmp_total, texts_ties}
 use Rattle.std.proofs.lemmas.Cmp.{eq_by_cmp_equiv}
 use Rattle.std.specs.String.{string_bytes}
-use Rattle.std.specs.FinMap.{get, insert, find, get-insert, get-empty, from_entries, from_entries_push, get-from_entries}
+use Rattle.std.specs.FinMap.{get, insert, get-insert, get-empty, from_entries, from_entries_push, get-from_entries}
 use Rattle.std.proofs.lemmas.List.{map-append, take-append-drop}
 use Rattle.std.proofs.Math.Seq.{take-append_seam}
 use Rattle.std.proofs.lemmas.List.Quantifiers.{position-Some}
 use Rattle.std.proofs.lemmas.Iterator.Adapters.{position_from-zero}
 use Rattle.sst_cli.specs.declared.device.memory.files.MemFile.{MemFile}
 use Rattle.sst_cli.specs.MemFiles.{entry_of, files_of, is_named}
-use Rattle.sst_cli.specs.Folder.{Files, written_over, edit_file, changed_file, misses, ends_before}
+use Rattle.sst_cli.specs.Folder.{Files, written_over, edit_file, changed_file, ends_before}
 use Rattle.sst_cli.proofs.Maps.{name_cmp_same, same_name, insert-insert, insert-swap, insert-same}
 
 -- the name of a file that is named so
@@ -77,7 +77,7 @@ set-at name (file ∷ files) (suc i) any new f same =
     ∙ sym (insert-swap (files_of files) (string_bytes file.name) name file.bytes.items new.bytes.items (apart name file (f.before 0 (omega arith))))
 
 first : (name : List ℕ) (files : List MemFile) (i : ℕ) (any : MemFile) → position (is_named name) files ≡ Some i → IsFirst name files i any
-first name files i any e = let p = position-Some (is_named name) files i any e in record { within = p.0; here = p.1; before = p.2; }
+first name files i any e = let p = position-Some (is_named name) files i any e in record { within = p.0; here = p.1; before = p.2 }
 
 named_at : (name : List ℕ) (files : List MemFile) (i : ℕ) (any file : MemFile) → IsFirst name files i any → string_bytes file.name ≡ string_bytes (get_or files i any).name
     → string_bytes file.name ≡ name
@@ -90,7 +90,7 @@ pub record FoundAt (name : List ℕ) (files : List MemFile) (i : ℕ) (file : Me
 
 pub found_at : (name : List ℕ) (looked files : List MemFile) (i : ℕ) (file : MemFile) → Some i ≡ position (is_named name) looked → looked ≡ files
     → file ≡ get_or files i file → FoundAt name files i file
-found_at name looked files i file found same is = record { found = sym (found ∙ ap (position (is_named name)) same); is = is; }
+found_at name looked files i file found same is = record { found = sym (found ∙ ap (position (is_named name)) same); is = is }
 
 pub get-found : (name : List ℕ) (files : List MemFile) (i : ℕ) (file : MemFile) → FoundAt name files i file → get (files_of files) name ≡ Some file.bytes.items
 get-found name files i file f = get-at name files i file (first name files i file f.found) ∙ ap (λ g. Some g.bytes.items) (sym f.is)
@@ -116,7 +116,7 @@ pub push-absent : (name : List ℕ) (files : List MemFile) (file : MemFile) → 
 push-absent name files file none same =
     ap from_entries (map-append entry_of files (file ∷ [])) ∙ ap (λ n. from_entries (map entry_of files ++ (n, file.bytes.items) ∷ [])) same
     ∙ from_entries_push nat_list_cmp_total name_cmp_same (map entry_of files) name file.bytes.items
-        (sym (get-from_entries nat_list_cmp_total (map entry_of files) name) ∙ get-absent name files none)
+    (sym (get-from_entries nat_list_cmp_total (map entry_of files) name) ∙ get-absent name files none)
 
 -- an edit that writes nothing leaves the folder as it was
 pub edit-none : (name : List ℕ) (held : Files) (change : List ℕ → List ℕ) → ((bytes : List ℕ) → change bytes ≡ bytes) → Some held ≡ edit_file (Some held) name change

@@ -1,16 +1,15 @@
 -- What the bytes that were read say of the whole input.
-use Rattle.std.proofs.Common.{◌≡◌, ℕ, zero, suc, ◌+◌, ◌<◌, ◌≤◌, ◌&&◌, Bool, true, false, cond, nat_le, List, [], ◌∷◌, ◌++◌, length, take, drop, Option, Some, None, option_and_then, Result, Ok, Err, refl, sym, ap, ◌∙◌, length-append, append_assoc, arith, rules}
+use Rattle.std.proofs.Common.{◌≡◌, ℕ, ◌<◌, List, [], ◌∷◌, ◌++◌, length, Option, Some, None, Ok, Err, refl, ap, ◌∙◌, length-append, append_assoc, arith}
 use Rattle.std.specs.Option.{option_map}
 use Rattle.std.specs.Io.KnownBytes.{prepend_known}
 use Rattle.std.proofs.lemmas.Bool.{lt-leb}
 use Rattle.sst_key.specs.declared.entries.Entry.{Entry}
-use Rattle.sst_cli.specs.declared.refusal.Refusal.{Refusal}
 use Rattle.sst_cli.specs.declared.refusal.Place.TheVariants as place
 use Rattle.sst_cli.specs.declared.refusal.Reason.TheVariants as reason
-use Rattle.sst_cli.specs.Texts.{cut, entry_of_line}
+use Rattle.sst_cli.specs.Texts.{cut}
 use Rattle.sst_cli.specs.Lines.{BeginsLong, IsRead}
 use Rattle.std.proofs.lemmas.List.{append-nil}
-use Rattle.sst_cli.specs.Reading.{within_limits, line_entry, refused_at, only_entry, first_line, read_input}
+use Rattle.sst_cli.specs.Reading.{line_entry, refused_at, only_entry, first_line, read_input}
 use Rattle.sst_cli.proofs.Cut.{cut-append_none, cut-append_some}
 
 -- the input is what was read and what is left
@@ -42,13 +41,13 @@ read_input-long text bytes rest long is =
     let some : 0 < length text = let l = ap length parted in let sum = length-append long.front (long.rest ++ rest) in let many = long.long in omega arith in
     let after : List ℕ = long.rest ++ rest in
     let joined : cut 10 text ≡ option_map (λ (parts : List ℕ × List ℕ). (long.front ++ parts.0, parts.1)) (cut 10 after) =
-      ap (cut 10) parted ∙ cut-append_none 10 long.front after long.none in
+    ap (cut 10) parted ∙ cut-append_none 10 long.front after long.none in
     elim (cut 10 after) as (λ o. cut 10 text ≡ option_map (λ (parts : List ℕ × List ℕ). (long.front ++ parts.0, parts.1)) o → read_input text ≡ Err (refused_at 1)) [
       | None ↦ λ none. read_input-unended text some none
       | Some p ↦ λ found.
-        let line : List ℕ = long.front ++ p.0 in
-        let past : 40000000 < length line = let sum = length-append long.front p.0 in let many = long.long in omega arith in
-        read_input-line text line p.1 found ∙ ap (λ (o : Option Entry). only_entry o p.1) (line_entry-long line past)
+          let line : List ℕ = long.front ++ p.0 in
+          let past : 40000000 < length line = let sum = length-append long.front p.0 in let many = long.long in omega arith in
+          read_input-line text line p.1 found ∙ ap (λ (o : Option Entry). only_entry o p.1) (line_entry-long line past)
     ] joined
 
 -- a line that was read, and what was read after it

@@ -1,7 +1,7 @@
 -- What a block-based file stands for: the list of entries that its data blocks hold.
 -- RocksDB: wiki page "Rocksdb BlockBasedTable Format"; table/block_based/block_based_table_reader.cc.
 -- For now the index has at most one row, and so the list at most one data block.
-use Rattle.std.specs.Prelude.{◌≡◌, ◌≢◌, ℕ, ◌<◌, ◌^◌, false, List, [], ◌∷◌, length, map}
+use Rattle.std.specs.Prelude.{◌≡◌, ◌≢◌, ℕ, ◌<◌, false, List, [], ◌∷◌, length, map}
 use Rattle.std.specs.declared.cmp.Ordering.TheVariants.{Greater}
 use Rattle.sst_num.specs.Spelling.{handle_spelling}
 use Rattle.sst_num.specs.declared.block_handle.Handle.{Handle}

@@ -1,5 +1,5 @@
 -- Counts of faults: an object outside counts its failures, and no call fails without one.
-use Rattle.std.specs.Prelude.{◌≡◌, ℕ, ◌+◌, ◌-◌, ◌^◌, ◌≤◌, min}
+use Rattle.std.specs.Prelude.{ℕ, ◌+◌, ◌-◌, ◌^◌, ◌≤◌, min}
 
 -- the count rose, or stands at the last value of a u64
 abbrev pub Rose : ℕ → ℕ → Type 0

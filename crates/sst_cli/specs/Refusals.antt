@@ -1,5 +1,5 @@
 -- What is printed where the input is refused. These texts are this project's own.
-use Rattle.std.specs.Prelude.{ℕ, List, [], ◌∷◌, ◌++◌, codes}
+use Rattle.std.specs.Prelude.{ℕ, List, ◌++◌, codes}
 use Rattle.std.specs.Fmt.{decimal}
 use Rattle.sst_cli.specs.declared.refusal.Reason.{Reason}
 use Rattle.sst_cli.specs.declared.refusal.Reason.TheVariants as reason

@@ -4,12 +4,11 @@ ghost use Rattle.sst_key.specs.declared.entries.Entry as entry;
 ghost use Rattle.sst_cli.specs.Texts as texts;
 ghost use Rattle.sst_cli.specs.LineFields.{seen};
 
+use crate::cuts::cut;
 use hex::FromHexError;
 use sst_key::{Entry, Kind};
 use sst_num::{Bytes, Memory};
 use std::alloc::Global;
-
-use crate::cuts::cut;
 
 /// The fields of an entry line, the keys and values still in hex digits.
 #[derive(Clone, Copy)]
@@ -98,7 +97,11 @@ fn bytes_field(alloc: Global, field: &[u8]) -> Result<Option<Bytes>, Memory>
 {
     match field {
         [] => Ok(None),
-        [c] => Ok(if *c == b'-' { Some(Bytes::new(alloc)) } else { None }),
+        [c] => Ok(if *c == b'-' {
+            Some(Bytes::new(alloc))
+        } else {
+            None
+        }),
         _ => match hex::decode(alloc, field) {
             Ok(bytes) => Ok(Some(Bytes::from(bytes))),
             Err(FromHexError::OutOfMemory) => Err(Memory),

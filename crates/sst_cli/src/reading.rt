@@ -8,15 +8,14 @@ ghost use Rattle.sst_cli.specs.ReadingResult.{IsReading};
 ghost use Rattle.sst_cli.specs.declared.reading.InputStop.TheVariants as stop;
 ghost use Rattle.sst_cli.specs.declared.device.folder.DevStop.TheVariants as device;
 
-use sst_key::Entry;
-use sst_num::Memory;
-use std::alloc::Global;
-
 use crate::device::folder::{DevStop, Failed};
 use crate::device::stream::Intake;
 use crate::entry_line::entry_of_line;
 use crate::lines::{Found, read_on};
 use crate::refusal::{Place, Reason, Refusal};
+use sst_key::Entry;
+use sst_num::Memory;
+use std::alloc::Global;
 
 /// The most bytes of a user key.
 const KEY_LIMIT: usize = 65_536;
@@ -98,7 +97,12 @@ fn refused(place: Place, reason: Reason) -> InputStop
 }
 
 /// The entry of a line that has been read, with what was read after it; nothing may follow it.
-fn only_entry<I: Intake>(alloc: Global, line: &[u8], after: &[u8], input: &mut I) -> Result<Entry, InputStop>
+fn only_entry<I: Intake>(
+    alloc: Global,
+    line: &[u8],
+    after: &[u8],
+    input: &mut I,
+) -> Result<Entry, InputStop>
     requires { length line.now ≤ 40000000 }
     ensures told { (rest : List ℕ) → I.left input.old ≡ Some rest
         → IsReading result (reading.only_entry (reading.line_entry line.now) (after.now ++ rest)) (I.left input.new) }

@@ -1,3 +1,4 @@
+//! Folders of named files, and how a call on an object outside stops.
 ghost use Rattle.std.specs.Prelude.{◌≡◌, ℕ, ◌+◌, ◌-◌, ◌^◌, ◌<◌, ◌≤◌, ◌⊎◌, ◌++◌, [], length, take, slice_range, Option, IsTrue, IsErr, IfOk, IfSome, OnOk, OnErr};
 ghost use Rattle.sst_cli.specs.Folder.{Files, file_of, put_file, edit_file, misses, written_over};
 ghost use Rattle.sst_cli.specs.Faults.{Rose, counted};

@@ -32,5 +32,4 @@ pub fn put_frame(out: &mut Vec<u8>, block: &[u8]) -> Result<(), Memory>
 pub fn frame_is_framed()
     ensures { (front block rest : List ℕ) (end : ℕ) → length block ≤ 2 ^ 29 → length front + length block + 5 ≤ end
         → Framed (front ++ (frame_of block ++ rest)) end (record { offset = length front; size = length block }) block }
-{
-}
+{}

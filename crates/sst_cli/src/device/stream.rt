@@ -1,4 +1,5 @@
-ghost use Rattle.std.specs.Prelude.{◌≡◌, ℕ, ◌<◌, ◌≤◌, List, [], ◌++◌, length, take, Option, IfOk, IfSome, OnErr};
+//! Streams of bytes, in and out.
+ghost use Rattle.std.specs.Prelude.{◌≡◌, ℕ, ◌<◌, ◌≤◌, List, [], ◌++◌, length, take, Option, IfOk, IfSome, OnOk, OnErr};
 ghost use Rattle.std.specs.Io.KnownBytes.{prepend_known, append_known};
 ghost use Rattle.sst_cli.specs.Faults.{Rose};
 
@@ -39,4 +40,27 @@ pub trait Sink {
         ensures none { result ≡ Ok 0 → 0 < length piece.now → Rose (faults self.old) (faults self.new) }
         ensures failed { result ≡ Err DevStop.Failed → Rose (faults self.old) (faults self.new) }
         ensures counts { faults self.old ≤ faults self.new };
+}
+
+/// Puts the whole piece, in as many calls of `put` as the sink needs; an empty piece makes no call.
+///
+/// Answers `Failed` where a `put` failed or took nothing of what was left, and `Memory` where a `put` ran out of
+/// memory. After an error a prefix of the piece stands in the sink.
+pub fn put_all<O: Sink>(out: &mut O, piece: &[u8]) -> Result<(), DevStop>
+    ensures all { OnOk result (O.written out.new ≡ append_known (O.written out.old) piece.now) }
+    ensures err { OnErr result ((n : ℕ)
+        × (O.written out.new ≡ append_known (O.written out.old) (take n piece.now))) }
+    ensures failed { result ≡ Err DevStop.Failed → Rose (O.faults out.old) (O.faults out.new) }
+    ensures counts { O.faults out.old ≤ O.faults out.new }
+{
+    let mut done = 0;
+    while done < piece.len() {
+        let rest = piece.split_at(done).1;
+        let taken = out.put(rest)?;
+        if taken == 0 {
+            return Err(DevStop::Failed);
+        }
+        done += taken;
+    }
+    Ok(())
 }

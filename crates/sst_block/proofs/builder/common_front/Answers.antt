@@ -1,7 +1,6 @@
-use Rattle.std.proofs.Common.{◌≡◌, ◌⊎◌, inl, inr, ◌≤◌, ◌<◌, length, min, sym, ◌∙◌, ℕ, arith}
+use Rattle.std.proofs.Common.{◌≡◌, ◌⊎◌, inl, inr, ◌≤◌, length, min, sym, ◌∙◌, ℕ, arith}
 use Rattle.std.proofs.lemmas.Bool.{cases_lt}
 use Rattle.sst_block.proofs.Fronts.{common-more, common-apart, common-ended}
-use Rattle.sst_block.proofs.Held as kept
 use Rattle.sst_block.proofs.builder.common_front.Goals as goal
 
 ends : (a b at end : ℕ) → at ≡ end → end ≡ min a b → (a ≤ at) ⊎ (b ≤ at)

@@ -1,4 +1,4 @@
-use Rattle.std.proofs.Common.{◌≡◌, ℕ, ◌+◌, drop}
+use Rattle.std.proofs.Common.{◌≡◌, ◌+◌, drop}
 use Rattle.sst_block.specs.Block.{common}
 use Rattle.sst_block.proofs.builder.common_front.Given as goal
 

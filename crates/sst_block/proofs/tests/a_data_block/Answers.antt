@@ -1,4 +1,4 @@
-use Rattle.std.proofs.Common.{[], ◌∷◌, refl, arith, rules}
+use Rattle.std.proofs.Common.{[], ◌∷◌, refl, arith}
 use Rattle.sst_key.specs.declared.entries.Kind.TheVariants.{Value}
 use Rattle.sst_block.specs.declared.row_form.RowForm.TheVariants.{Entries}
 use Rattle.sst_block.proofs.Size.{can_add}

@@ -1,4 +1,3 @@
-use Rattle.std.proofs.Common.{rules, arith}
 use Rattle.sst_cli.proofs.Cut.{cut_found}
 use Rattle.sst_cli.proofs.cuts.first_place.Goals as goal
 

@@ -1,5 +1,4 @@
-use Rattle.std.proofs.Common.{◌≡◌, ◌^◌, drop, option_and_then, sym, ◌∙◌, arith}
-use Rattle.sst_cli.specs.Texts.{digits_from, in_range}
+use Rattle.std.proofs.Common.{drop, sym, ◌∙◌, arith}
 use Rattle.sst_cli.proofs.Digits.{digits-past}
 use Rattle.sst_cli.proofs.entry_line.digits.Goals as goal
 

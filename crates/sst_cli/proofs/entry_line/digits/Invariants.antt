@@ -1,4 +1,4 @@
-use Rattle.std.proofs.Common.{◌≡◌, ◌<◌, ◌*◌, ◌^◌, take, drop, option_and_then}
+use Rattle.std.proofs.Common.{◌≡◌, ◌<◌, ◌^◌, drop, option_and_then}
 use Rattle.sst_cli.specs.Texts.{digits_from, in_range}
 use Rattle.sst_cli.proofs.entry_line.digits.Given as goal
 

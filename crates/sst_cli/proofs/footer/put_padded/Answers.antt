@@ -1,4 +1,4 @@
-use Rattle.std.proofs.Common.{◌≡◌, ℕ, ◌+◌, length, arith}
+use Rattle.std.proofs.Common.{arith}
 use Rattle.sst_cli.proofs.Footers.{padded}
 use Rattle.sst_cli.proofs.footer.put_padded.Goals as goal
 

@@ -1,5 +1,4 @@
-use Rattle.std.proofs.Common.{◌≡◌, ℕ, List, Some, None, length, take, drop, sym, ap, ◌∙◌, arith}
-use Rattle.sst_cli.specs.Texts.{cut}
+use Rattle.std.proofs.Common.{◌≡◌, length, ◌∙◌, arith}
 use Rattle.sst_cli.proofs.ReadOn.{told_on, none_on, found_on, piece_is}
 use Rattle.sst_cli.proofs.lines.read_on.Goals as goal
 

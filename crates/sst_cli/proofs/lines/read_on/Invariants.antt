@@ -1,4 +1,4 @@
-use Rattle.std.proofs.Common.{◌+◌, ◌-◌, vec_len}
+use Rattle.std.proofs.Common.{◌-◌, vec_len}
 use Rattle.sst_cli.proofs.ReadOn.{ReadOn}
 use Rattle.sst_cli.proofs.lines.read_on.Given as goal
 

@@ -1,5 +1,4 @@
-use Rattle.std.proofs.Common.{rules, ◌≡◌, ℕ, ◌+◌, ◌<◌, ◌≤◌, ◌^◌, List, ◌++◌, length, vec_len, take, drop, Option, None, Some, IfOk, OnErr, sym, ap, ◌∙◌, length-take, true, false, arith}
-use Rattle.std.specs.Io.KnownBytes.{prepend_known}
+use Rattle.std.proofs.Common.{rules, ◌≡◌, ◌≤◌, length, take, ap, ◌∙◌, length-take, true, arith}
 use Rattle.std.specs.Result.{is_ok}
 use Rattle.sst_cli.proofs.Refill.{refilled, before_room}
 use Rattle.sst_cli.proofs.lines.refill.Goals as goal

@@ -1,5 +1,4 @@
-use Rattle.std.proofs.Common.{◌≡◌, ℕ, List, [], ◌++◌, Some, Ok, sym, ap, ◌∙◌, arith}
-use Rattle.sst_cli.specs.Reading as reading
+use Rattle.std.proofs.Common.{sym, ◌∙◌}
 use Rattle.sst_cli.proofs.ReadInput.{only_entry-ended}
 use Rattle.sst_cli.proofs.LineLimits.{line_entry-limits}
 use Rattle.sst_cli.proofs.reading.only_entry.Goals as goal

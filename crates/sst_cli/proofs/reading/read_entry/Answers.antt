@@ -1,6 +1,4 @@
-use Rattle.std.proofs.Common.{◌≡◌, ℕ, ◌<◌, List, [], ◌∷◌, ◌++◌, length, take, drop, Some, Ok, Err, sym, ap, ◌∙◌, length-drop, arith}
-use Rattle.sst_cli.specs.Texts.{cut}
-use Rattle.sst_cli.specs.Reading as reading
+use Rattle.std.proofs.Common.{length, take, drop, ap, ◌∙◌, arith}
 use Rattle.sst_cli.proofs.Cut.{cut-length}
 use Rattle.sst_cli.proofs.ReadInput.{told_text, read_input-unended, read_input-long, read_input-found, unended_text, read_input-end}
 use Rattle.sst_cli.proofs.reading.read_entry.Goals as goal

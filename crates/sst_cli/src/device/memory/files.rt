@@ -4,11 +4,9 @@ ghost use Rattle.std.specs.FinMap.{get, insert};
 ghost use Rattle.sst_cli.specs.Folder.{edit_file, misses, written_over};
 ghost use Rattle.sst_cli.specs.MemFiles.{files_of, is_named};
 
-use std::alloc::Global;
-
-use sst_num::Memory;
-
 use crate::device::folder::DevStop;
+use sst_num::Memory;
+use std::alloc::Global;
 
 /// A file in memory.
 #[derive(Debug, Drop)]
@@ -136,12 +134,7 @@ pub(crate) fn copy_from(bytes: &[u8], start: usize, buf: &mut [u8])
 }
 
 /// Fills the buffer with the bytes of the named file from `at` on.
-pub(crate) fn read(
-    files: &[MemFile],
-    name: &str,
-    at: u64,
-    buf: &mut [u8],
-) -> Result<(), DevStop>
+pub(crate) fn read(files: &[MemFile], name: &str, at: u64, buf: &mut [u8]) -> Result<(), DevStop>
     ensures filled { OnOk result (IfSome (get (files_of files.now) name.now)
         (λ bytes. buf.new ≡ slice_range bytes at (at + length buf.old))) }
     ensures miss { IsTrue (misses (Some (files_of files.now)) name.now (at + length buf.old)) → IsErr result }

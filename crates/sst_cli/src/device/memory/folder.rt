@@ -4,15 +4,13 @@ ghost use Rattle.std.specs.FinMap.{empty};
 ghost use Rattle.sst_cli.specs.Folder.{file_of, put_file};
 ghost use Rattle.sst_cli.specs.MemFiles.{files_of};
 
-use std::alloc::Global;
-
-use sst_num::Memory;
-
 use crate::device::counts::count_on;
 use crate::device::folder::{DevStop, Folder};
 use crate::device::memory::files;
 use crate::device::memory::files::MemFile;
 use crate::device::memory::plan::FailPlan;
+use sst_num::Memory;
+use std::alloc::Global;
 
 /// How many bytes of its piece a failing `add` or `patch` still writes.
 const WRITTEN_IN_FAILURE: usize = 3;

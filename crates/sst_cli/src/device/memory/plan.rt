@@ -3,11 +3,9 @@ ghost use Rattle.std.specs.Prelude.{◌≡◌, ◌≤◌, IfOk, eqb, true, if◌
 ghost use Rattle.std.specs.List.{list_any};
 ghost use Rattle.sst_cli.specs.Faults.{Rose, counted};
 
-use std::alloc::Global;
-
-use sst_num::Memory;
-
 use crate::device::counts::raise;
+use sst_num::Memory;
+use std::alloc::Global;
 
 /// The calls that are to fail, and counts of the calls and of the faults so far. Both counts stand still at the
 /// end of a `u64`.
@@ -36,8 +34,8 @@ impl FailPlan {
         ensures numbered { self.new.calls ≡ counted self.old.calls 1 }
         ensures listed { result ≡ list_any (λ number. eqb self.new.calls number) self.old.fail_at.items }
         ensures rose { result ≡ true → Rose self.old.faults self.new.faults }
-    ensures counts { self.old.faults ≤ self.new.faults }
-    ensures faulted { self.new.faults ≡ (if result then counted self.old.faults 1 else self.old.faults) }
+        ensures counts { self.old.faults ≤ self.new.faults }
+        ensures faulted { self.new.faults ≡ (if result then counted self.old.faults 1 else self.old.faults) }
     {
         self.calls = self.calls.saturating_add(1);
         let number = self.calls;

@@ -1,14 +1,12 @@
 //! Streams in memory.
 ghost use Rattle.std.specs.Prelude.{◌≡◌, ℕ, ◌+◌, ◌<◌, ◌≤◌, [], ◌++◌, length, take, drop, Some, IfOk};
 
-use std::alloc::Global;
-
-use sst_num::Memory;
-
 use crate::device::folder::{DevStop, Failed};
 use crate::device::memory::files::copy_over;
 use crate::device::memory::plan::FailPlan;
 use crate::device::stream::{Intake, Sink};
+use sst_num::Memory;
+use std::alloc::Global;
 
 /// Bytes in memory that come in, and are told.
 ///
@@ -118,7 +116,11 @@ impl Sink for MemSink {
 
     fn put(&mut self, piece: &[u8]) -> Result<usize, DevStop> {
         if self.plan.fails() {
-            return if self.is_stuck { Ok(0) } else { Err(DevStop::Failed) };
+            return if self.is_stuck {
+                Ok(0)
+            } else {
+                Err(DevStop::Failed)
+            };
         }
         match self.bytes.extend_from_slice(piece) {
             Ok(()) => Ok(piece.len()),

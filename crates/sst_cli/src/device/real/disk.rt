@@ -2,13 +2,12 @@
 ghost use Rattle.std.specs.Prelude.{◌≡◌, ◌≤◌, None};
 ghost use Rattle.sst_cli.specs.Faults.{Rose};
 
+use crate::device::counts::{count_on, raise};
+use crate::device::folder::{DevStop, Folder};
 use std::fs::OpenOptions;
 use std::io;
 use std::io::{ErrorKind, Read, Seek, SeekFrom, Write};
 use std::rt::Files;
-
-use crate::device::counts::{count_on, raise};
-use crate::device::folder::{DevStop, Folder};
 
 /// An open file.
 #[derive(Drop)]
@@ -32,8 +31,11 @@ pub struct DiskFolder<R: Files + AllocGlobal + Drop> {
 }
 
 impl<R: Files + AllocGlobal + Drop> DiskFolder<R> {
-    /// The files of a runtime, or of a reference to one.
-    pub fn new(rt: R) -> DiskFolder<R> {
+    /// The files of a runtime, or of a reference to one. No call has failed yet, and no byte was drawn.
+    pub fn new(rt: R) -> DiskFolder<R>
+        ensures faults { ⟦<DiskFolder<R> as Folder>⟧.faults result ≡ 0 }
+        ensures drawn { ⟦<DiskFolder<R> as Folder>⟧.drawn result ≡ 0 }
+    {
         DiskFolder {
             rt,
             opened: None,

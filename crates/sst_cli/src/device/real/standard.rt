@@ -1,12 +1,11 @@
 //! Standard input and output.
 ghost use Rattle.std.specs.Prelude.{◌≡◌, ◌≤◌, length, None, IfOk, OnErr};
 
-use std::io;
-use std::io::{ErrorKind, Read};
-
 use crate::device::counts::raise;
 use crate::device::folder::{DevStop, Failed};
 use crate::device::stream::{Intake, Sink};
+use std::io;
+use std::io::{ErrorKind, Read};
 
 /// Standard input. It tells nothing of what is left.
 #[derive(Drop)]
@@ -16,8 +15,10 @@ pub struct StdIntake<R: Input> {
 }
 
 impl<R: Input> StdIntake<R> {
-    /// Takes the standard input of the runtime.
-    pub fn new(rt: &R) -> StdIntake<R> {
+    /// Takes the standard input of the runtime. No call has failed yet.
+    pub fn new(rt: &R) -> StdIntake<R>
+        ensures { ⟦<StdIntake<R> as Intake>⟧.faults result ≡ 0 }
+    {
         StdIntake {
             reader: rt.reader(),
             faults: 0,
@@ -83,8 +84,10 @@ pub struct StdSink<R: Print> {
 }
 
 impl<R: Print> StdSink<R> {
-    /// Takes the standard output of the runtime.
-    pub fn new(rt: R) -> StdSink<R> {
+    /// Takes the standard output of the runtime. No call has failed yet.
+    pub fn new(rt: R) -> StdSink<R>
+        ensures { ⟦<StdSink<R> as Sink>⟧.faults result ≡ 0 }
+    {
         StdSink { rt, faults: 0 }
     }
 }

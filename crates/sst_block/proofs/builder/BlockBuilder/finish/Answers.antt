@@ -1,8 +1,3 @@
-use Rattle.std.proofs.Common.{◌≡◌, ℕ, List}
-use Rattle.sst_block.specs.Block.{Row}
-use Rattle.sst_block.specs.Builder.{Holds}
-use Rattle.sst_block.specs.Chosen.{block_of}
-use Rattle.sst_block.specs.declared.row_form.RowForm.{RowForm}
 use Rattle.sst_block.proofs.Kept.{block_of-made}
 use Rattle.sst_block.proofs.Held.{is_block}
 use Rattle.sst_block.proofs.builder.BlockBuilder.finish.Goals as goal

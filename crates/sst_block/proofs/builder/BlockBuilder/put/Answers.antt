@@ -1,4 +1,4 @@
-use Rattle.std.proofs.Common.{◌≡◌, ◌<◌, ◌≤◌, ℕ, List, take, length, refl, sym, ap, ◌∙◌, subst, arith}
+use Rattle.std.proofs.Common.{◌≡◌, ◌≤◌, ℕ, List, take, length, sym, ap, ◌∙◌, arith}
 use Rattle.sst_block.specs.Block.{common}
 use Rattle.sst_block.proofs.Fronts.{common-take, common-le_right}
 use Rattle.sst_block.proofs.Kept.{Keeps-put}
@@ -6,14 +6,14 @@ use Rattle.sst_block.proofs.Held.{value_short, may_stand-more}
 use Rattle.sst_block.proofs.builder.BlockBuilder.put.Goals as goal
 
 -- what the common front gives the calls that take it
-front-le : (last lent key : List ℕ) (shared : ℕ) → shared ≡ common lent key → shared ≤ length key
-front-le last lent key shared is = omega (arith, is, common-le_right lent key)
+front-le : (lent key : List ℕ) (shared : ℕ) → shared ≡ common lent key → shared ≤ length key
+front-le lent key shared is = omega (arith, is, common-le_right lent key)
 
 front_same : (last lent key : List ℕ) (shared : ℕ) → lent ≡ last → shared ≡ common lent key → take shared last ≡ take shared key
 front_same last lent key shared same is = rw (is, same) (common-take last key)
 
 pub put_row-requires-clause-front : goal.put_row-requires-clause-front
-put_row-requires-clause-front c = front-le c.deref.result.now c.deref.result.now c.args.key.now _ c.common_front-shared.ensures
+put_row-requires-clause-front c = front-le c.deref.result.now c.args.key.now _ c.common_front-shared.ensures
 
 pub put_row-requires-clause-value : goal.put_row-requires-clause-value
 put_row-requires-clause-value c =
@@ -21,7 +21,7 @@ put_row-requires-clause-value c =
     omega (arith, short)
 
 pub keep_key-requires-clause-front : goal.keep_key-requires-clause-front
-keep_key-requires-clause-front c = front-le c.deref.result.now c.deref.result.now c.args.key.now _ c.common_front-shared.ensures
+keep_key-requires-clause-front c = front-le c.deref.result.now c.args.key.now _ c.common_front-shared.ensures
 
 pub keep_key-requires-clause-same : goal.keep_key-requires-clause-same
 keep_key-requires-clause-same c = front_same _ _ c.args.key.now _ c.deref.ensures.value c.common_front-shared.ensures

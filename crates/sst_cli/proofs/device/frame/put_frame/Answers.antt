@@ -10,7 +10,7 @@ pub returns-clause-ok : goal.returns-clause-ok
 returns-clause-ok c =
     let joined : c.put_fixed32.new.out.items ≡ c.push.new.self.items ++ fixed 4 c.mask-checksum.result → c.put_fixed32.new.out.items ≡ c.args.out.now.items ++ frame_of c.args.block.now =
     frame-put c.args.out.now.items c.args.block.now c.extend_from_slice.new.self.items c.push.new.self.items c.split_at.result.1.now c.put_fixed32.new.out.items
-      c.len-start.result c.mask-checksum.result c.in_ok-extend_from_slice.ensures.items c.in_ok-push.ensures.items (c.len-start.ensures ∙ c.args.out.now.ok.0)
-      (c.split_at.ensures.back ∙ ap (drop c.len-start.result) c.deref.ensures.value)
-      (c.mask-checksum.ensures ∙ ap mask c.crc32c.ensures) in
+    c.len-start.result c.mask-checksum.result c.in_ok-extend_from_slice.ensures.items c.in_ok-push.ensures.items (c.len-start.ensures ∙ c.args.out.now.ok.0)
+    (c.split_at.ensures.back ∙ ap (drop c.len-start.result) c.deref.ensures.value)
+    (c.mask-checksum.ensures ∙ ap mask c.crc32c.ensures) in
     on_ok_weaker c.put_fixed32.result joined c.put_fixed32.ensures.ok

@@ -1,5 +1,5 @@
-use Rattle.std.proofs.Common.{◌∙◌, ◌++◌, List, take, append-nil, refl, sym, ap, position, arith}
-use Rattle.sst_cli.specs.MemFiles.{files_of, is_named}
+use Rattle.std.proofs.Common.{◌∙◌, ◌++◌, take, append-nil, refl, sym, ap, position, arith}
+use Rattle.sst_cli.specs.MemFiles.{is_named}
 use Rattle.sst_cli.proofs.MemFiles.{found_at, get-found, get-absent, edit-found, edit-none, ends-absent, ends-far}
 use Rattle.sst_cli.proofs.device.memory.files.append.Goals as goal
 
@@ -14,7 +14,7 @@ pub returns-in-Ok-clause-added : goal.returns-in-Ok-clause-added
 returns-in-Ok-clause-added c =
     let found = found_at c.args.name.now _ c.args.files.now.items c.in-Some.i c.index_mut.result.now c.in-Some.ensures c.deref.ensures.value c.index_mut.ensures.value in
     edit-found _ _ _ _ _ (λ bytes. bytes ++ take c.args.count c.args.piece.now) found refl
-      (c.in-Ok.ensures.items ∙ ap (λ l. c.index_mut.result.now.bytes.items ++ l) c.split_at.ensures.front)
+    (c.in-Ok.ensures.items ∙ ap (λ l. c.index_mut.result.now.bytes.items ++ l) c.split_at.ensures.front)
 
 pub returns-in-Ok-clause-some : goal.returns-in-Ok-clause-some
 returns-in-Ok-clause-some c = (c.args.count, returns-in-Ok-clause-added c)
@@ -26,6 +26,8 @@ returns-in-Ok-clause-miss c =
 
 pub returns-in-Err-clause-some : goal.returns-in-Err-clause-some
 returns-in-Err-clause-some c =
-    let found = found_at c.args.name.now _ c.args.files.now.items c.in-Some.i c.index_mut.result.now c.in-Some.ensures c.deref.ensures.value c.index_mut.ensures.value in
-    (0, edit-found _ _ _ _ _ (λ bytes. bytes ++ take 0 c.args.piece.now) found refl
-      (c.in-Err.ensures.items ∙ sym (append-nil c.index_mut.result.now.bytes.items)))
+    let found = found_at c.args.name.now _ c.args.files.now.items c.in-Some.i c.index_mut.result.now c.in-Some.ensures c.deref.ensures.value c.index_mut.ensures.value in (
+      0,
+      edit-found _ _ _ _ _ (λ bytes. bytes ++ take 0 c.args.piece.now) found refl
+          (c.in-Err.ensures.items ∙ sym (append-nil c.index_mut.result.now.bytes.items)),
+    )

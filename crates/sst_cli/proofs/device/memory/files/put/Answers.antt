@@ -1,4 +1,4 @@
-use Rattle.std.proofs.Common.{◌≡◌, ◌∙◌, List, None, refl, sym, ap, position}
+use Rattle.std.proofs.Common.{◌∙◌, refl, sym, ap, position}
 use Rattle.std.specs.FinMap.{insert}
 use Rattle.sst_cli.specs.MemFiles.{files_of, is_named}
 use Rattle.sst_cli.proofs.MemFiles.{found_at, set-found, push-absent}

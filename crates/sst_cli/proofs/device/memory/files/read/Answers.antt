@@ -1,5 +1,4 @@
-use Rattle.std.proofs.Common.{arith}
-use Rattle.sst_cli.proofs.MemFiles.{ends-absent, ends-short, ends-far}
+use Rattle.sst_cli.proofs.MemFiles.{ends-absent}
 use Rattle.sst_cli.proofs.device.memory.files.read.Goals as goal
 
 pub returns-in-None-clause-failed : goal.returns-in-None-clause-failed

@@ -2,7 +2,7 @@ use Rattle.std.proofs.Common.{◌∙◌, sym, ap, refl, position, take, length, 
 use Rattle.std.specs.Vec.{with_items}
 use Rattle.sst_cli.specs.declared.device.memory.files.MemFile.{MemFile}
 use Rattle.sst_cli.specs.Folder.{written_over}
-use Rattle.sst_cli.specs.MemFiles.{files_of, is_named}
+use Rattle.sst_cli.specs.MemFiles.{is_named}
 use Rattle.sst_cli.proofs.MemFiles.{found_at, get-found, get-absent, edit-found, edit-none, ends-absent, ends-short, ends-far, written_over-nil, same_written, refilled}
 use Rattle.sst_cli.proofs.device.memory.files.write_over.Goals as goal
 
@@ -26,9 +26,9 @@ returns-in-Some-range_start-clause-patched c =
     let found = found_at c.args.name.now _ c.args.files.now.items c.in-Some.i c.index_mut.result.now c.in-Some.ensures c.deref.ensures.value c.index_mut.ensures.value in
     let new : MemFile = record { name = c.index_mut.result.now.name; bytes = with_items c.index_mut.result.now.bytes c.copy_over.new.bytes } in
     edit-found _ _ _ _ new (written_over c.args.at (take c.args.count c.args.piece.now)) found refl
-      (refilled c.index_mut.result.now.bytes.len c.copy_over.new.bytes c.index_mut.result.now.bytes.items c.index_mut.result.now.bytes.ok.0
-        (c.copy_over.auto.bytes ∙ ap length c.deref_mut.ensures.value)
-      ∙ c.copy_over.ensures ∙ same_written _ _ _ _ _ _ c.in-Some-range_start.ensures.0 c.split_at.ensures.front c.deref_mut.ensures.value)
+    (refilled c.index_mut.result.now.bytes.len c.copy_over.new.bytes c.index_mut.result.now.bytes.items c.index_mut.result.now.bytes.ok.0
+    (c.copy_over.auto.bytes ∙ ap length c.deref_mut.ensures.value)
+    ∙ c.copy_over.ensures ∙ same_written _ _ _ _ _ _ c.in-Some-range_start.ensures.0 c.split_at.ensures.front c.deref_mut.ensures.value)
 
 pub returns-in-Some-range_start-clause-some : goal.returns-in-Some-range_start-clause-some
 returns-in-Some-range_start-clause-some c = (c.args.count, returns-in-Some-range_start-clause-patched c)

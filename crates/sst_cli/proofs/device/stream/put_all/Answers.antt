@@ -1,7 +1,7 @@
-use Rattle.std.proofs.Common.{arith, ◌≡◌, ◌+◌, ℕ, List, take, length}
+use Rattle.std.proofs.Common.{arith, ◌≡◌, ◌+◌, ℕ, take}
 use Rattle.std.specs.Io.KnownBytes.{append_known}
 use Rattle.sst_cli.proofs.Pieces.{OnErr-always, append_known-more}
-use Rattle.sst_cli.proofs.device.put_all.put_all.Goals as goal
+use Rattle.sst_cli.proofs.device.stream.put_all.Goals as goal
 
 pub returns-in_err-taken-clause-err : goal.returns-in_err-taken-clause-err
 returns-in_err-taken-clause-err g c =

@@ -1,0 +1,30 @@
+ghost use Rattle.std.specs.Prelude.{◌≡◌, ◌∷◌, [], map};
+ghost use Rattle.std.specs.Option.{option_map};
+ghost use Rattle.std.specs.String.{string_bytes};
+ghost use Rattle.sst_cli.specs.Words as line;
+
+/// The name of the file that a `write` makes, where the words are such a line.
+pub fn out_name(words: &[String]) -> Option<&str>
+    ensures { option_map (λ name. name.now) result ≡ line.out_name (map string_bytes words.now) }
+{
+    match words {
+        [command, format, name] => named(command.as_str(), format.as_str(), name.as_str()),
+        _ => None,
+    }
+}
+
+/// The name, where the words before it ask for a block-based file and it isn't empty.
+fn named<'a>(command: &str, format: &str, name: &'a str) -> Option<&'a str>
+    ensures { option_map (λ name. name.now) result ≡ line.out_name (command.now ∷ format.now ∷ name.entry.now ∷ []) }
+{
+    if name.is_empty() {
+        return None;
+    }
+    if command != "write" {
+        return None;
+    }
+    if format != "block" {
+        return None;
+    }
+    Some(name)
+}
