@@ -1,4 +1,4 @@
-ghost use Rattle.std.specs.Prelude.{◌≡◌, ℕ, ◌+◌, ◌<◌, ◌≤◌, ◌^◌, List, [], ◌∷◌, ◌++◌, length, Option, Some, None, Err, IsErr, IfOk, OnOk, OnErr, IfSome, MatchOption};
+ghost use Rattle.std.specs.Prelude.{◌≡◌, ℕ, ◌<◌, ◌≤◌, ◌^◌, List, [], ◌∷◌, ◌++◌, length, Some, None, Err, IsErr, IfOk, OnOk, OnErr};
 ghost use Rattle.sst_key.specs.Entry.{entry_of, key_of};
 ghost use Rattle.sst_key.specs.Entry.{weight as weight_of};
 ghost use Rattle.sst_key.specs.declared.entries.Entry.{Entry};
