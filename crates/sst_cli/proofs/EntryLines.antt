@@ -1,6 +1,6 @@
 -- The sequence number of an entry line is in its range.
-use Rattle.std.proofs.Common.{◌≡◌, ℕ, ◌^◌, ◌<◌, ◌&&◌, ◌==◌, Bool, true, false, cond, nat_le, nat_lt, List, [], ◌∷◌, length, Some, None, option_and_then, refl, sym, ap, subst, arith}
-use Rattle.std.proofs.lemmas.Bool.{leb-true, ltb-true}
+use Rattle.std.proofs.Common.{◌≡◌, ℕ, ◌^◌, ◌<◌, ◌==◌, true, false, cond, nat_lt, List, [], ◌∷◌, Some, None, option_and_then, sym, ap, arith}
+use Rattle.std.proofs.lemmas.Bool.{ltb-true}
 use Rattle.std.proofs.lemmas.Option.{option_and_then_some, cond_some}
 use Rattle.sst_key.specs.declared.entries.Entry.{Entry}
 use Rattle.sst_cli.specs.Texts.{cut, digits_from, in_range, seq_field, kind_field, bytes_field, Fields, fields_of, entry_of_fields, entry_of_line}
@@ -45,11 +45,10 @@ entry_of_fields-some fields entry e =
     option_and_then_some _ (bytes_field fields.value) entry eu (λ value _ ev.
     sym (ap (λ (f : Entry). f.seq) (same_some _ entry ev))))
 
-
 -- an entry line has a sequence number in range
 pub entry_of_line-seq : (line : List ℕ) (e : Entry) → entry_of_line line ≡ Some e → e.seq < 2 ^ 56
 entry_of_line-seq line entry e =
     option_and_then_some entry_of_fields (fields_of line) entry e (λ fields of made.
-      let same = entry_of_fields-some fields entry made in
-      let low = fields_of-some line fields of in
-      omega arith)
+    let same = entry_of_fields-some fields entry made in
+    let low = fields_of-some line fields of in
+    omega arith)

@@ -1,17 +1,15 @@
 -- How the text that is still to come is read, line by line.
-use Rattle.std.proofs.Common.{◌≡◌, ℕ, zero, suc, ◌+◌, ◌*◌, ◌^◌, ◌<◌, ◌≤◌, ◌==◌, Bool, true, false, cond, nat_lt, List, [], ◌∷◌, ◌++◌, length, take, drop, Option, Some, None, Result, Ok, Err, refl, sym, ap, ◌∙◌, subst, length-append, append_assoc, arith, rules}
+use Rattle.std.proofs.Common.{◌≡◌, ℕ, ◌+◌, ◌<◌, ◌≤◌, ◌==◌, Bool, true, false, cond, List, [], ◌∷◌, ◌++◌, length, Option, Some, None, Result, Ok, Err, refl, sym, ap, ◌∙◌, length-append, append_assoc, arith}
 use Rattle.std.specs.Option.{option_map}
-use Rattle.std.specs.Io.KnownBytes.{prepend_known}
 use Rattle.std.proofs.lemmas.Bool.{le-ltb, lt-ltb}
 use Rattle.std.proofs.lemmas.List.{append-nil}
 use Rattle.sst_key.specs.declared.entries.Entry.{Entry}
-use Rattle.sst_cli.specs.declared.refusal.Refusal.{Refusal}
 use Rattle.sst_cli.specs.declared.refusal.Reason.{Reason}
 use Rattle.sst_cli.specs.declared.refusal.Reason.TheVariants as why
 use Rattle.sst_cli.specs.Texts.{cut}
-use Rattle.sst_cli.specs.Lines.{BeginsLong, IsRead}
-use Rattle.sst_cli.specs.Reading.{result_match, onto_first, pieces_of, read_line, refused_at, read_last, read_pieces, read_from, read_input}
-use Rattle.sst_cli.proofs.Cut.{cut-append_some, cut-parts}
+use Rattle.sst_cli.specs.Lines.{BeginsLong}
+use Rattle.sst_cli.specs.Reading.{result_match, onto_first, pieces_of, read_line, refused_at, read_last, read_pieces, read_from}
+use Rattle.sst_cli.proofs.Cut.{cut-parts}
 
 cond_pieces : (t : Bool) (b : ℕ) (pieces : List (List ℕ)) (first : List ℕ) (others : List (List ℕ)) → pieces ≡ first ∷ others
     → (f : List ℕ) × ((o : List (List ℕ)) × (cond t ([] ∷ pieces) (onto_first b pieces) ≡ f ∷ o))

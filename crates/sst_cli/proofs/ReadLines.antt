@@ -1,10 +1,9 @@
 -- What a line says to a writer.
-use Rattle.std.proofs.Common.{◌≡◌, ℕ, zero, suc, ◌+◌, ◌^◌, ◌<◌, ◌≤◌, Bool, true, false, cond, nat_lt, List, [], ◌∷◌, ◌++◌, length, take, drop, Option, Some, None, Result, Ok, Err, refl, sym, ap, ◌∙◌, subst, arith, rules}
+use Rattle.std.proofs.Common.{◌≡◌, ℕ, ◌≤◌, List, [], ◌∷◌, ◌++◌, length, Some, None, Result, Err, refl, sym, ap, ◌∙◌, subst}
 use Rattle.std.proofs.lemmas.Bool.{le-ltb}
 use Rattle.sst_key.specs.declared.entries.Entry.{Entry}
 use Rattle.sst_key.specs.declared.faults.WriteFault.{WriteFault}
 use Rattle.sst_cli.specs.declared.refusal.Refusal.{Refusal}
-use Rattle.sst_cli.specs.declared.refusal.Reason.{Reason}
 use Rattle.sst_cli.specs.declared.refusal.Reason.TheVariants as why
 use Rattle.sst_cli.specs.declared.reading.InputStop.{InputStop}
 use Rattle.sst_cli.specs.declared.reading.InputStop.TheVariants as stop

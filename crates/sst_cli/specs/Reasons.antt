@@ -1,5 +1,5 @@
 -- Why a block-based writer refuses an entry after those that it has. The limits are this project's own.
-use Rattle.std.specs.Prelude.{ℕ, ◌+◌, ◌^◌, nat_lt, if◌then◌else◌, Bool, true, not, List, [], ◌∷◌, length, Option, Some, None}
+use Rattle.std.specs.Prelude.{◌+◌, ◌^◌, nat_lt, if◌then◌else◌, Bool, true, not, List, [], ◌∷◌, length, Option, Some, None}
 use Rattle.std.specs.Ordering.{is_lt}
 use Rattle.sst_key.specs.declared.entries.Entry.{Entry}
 use Rattle.sst_key.specs.declared.faults.WriteFault.{WriteFault}

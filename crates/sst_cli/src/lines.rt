@@ -4,12 +4,11 @@ ghost use Rattle.sst_cli.specs.Faults.{Rose};
 ghost use Rattle.sst_cli.specs.Texts.{cut};
 ghost use Rattle.sst_cli.specs.Lines.{IsRead, IsFound};
 
-use std::alloc::Global;
-use std::marker::Model;
-
 use crate::cuts::first_place;
 use crate::device::folder::{DevStop, Failed};
 use crate::device::stream::Intake;
+use std::alloc::Global;
+use std::marker::Model;
 
 /// The most bytes that a line has before its line end.
 const LINE_LIMIT: usize = 40_000_000;

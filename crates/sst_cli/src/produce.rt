@@ -5,12 +5,11 @@ ghost use Rattle.sst_cli.specs.Produced.{HasProduced};
 ghost use Rattle.sst_cli.specs.Run.{ChangesOnly};
 ghost use Rattle.sst_cli.specs.declared.refusal.Refusal.{Refusal};
 
-use std::alloc::Global;
-
 use crate::bbt_writer::BbtWriter;
 use crate::device::folder::{DevStop, Folder};
 use crate::device::stream::Intake;
 use crate::reading::{InputStop, add_lines};
+use std::alloc::Global;
 
 /// Begins the named file, reads the input to its end, and writes the file of its entries. Answers how many there
 /// are.

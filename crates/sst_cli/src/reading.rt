@@ -9,16 +9,15 @@ ghost use Rattle.sst_cli.specs.declared.refusal.Refusal.{Refusal};
 ghost use Rattle.sst_cli.specs.declared.reading.InputStop.TheVariants as stop;
 ghost use Rattle.sst_cli.specs.declared.device.folder.DevStop.TheVariants as device;
 
-use sst_key::{Entry, EntryView};
-use sst_num::{Memory, Refused};
-use std::alloc::Global;
-
 use crate::bbt_writer::BbtWriter;
 use crate::device::folder::DevStop;
 use crate::device::stream::Intake;
 use crate::entry_line::entry_of_line;
 use crate::lines::{Found, LineReader};
 use crate::refusal::{Reason, Refusal};
+use sst_key::{Entry, EntryView};
+use sst_num::{Memory, Refused};
+use std::alloc::Global;
 
 /// Why the input of a command gave nothing.
 #[derive(Clone, Copy, Debug, PartialEq, Eq)]

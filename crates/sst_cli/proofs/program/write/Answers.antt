@@ -1,5 +1,5 @@
-use Rattle.std.proofs.Common.{◌≡◌, ℕ, List, length, Option, None, Some, Ok, Err, refl, sym, ap, ◌∙◌}
-use Rattle.sst_cli.specs.Run.{IsTextOf, text_for, done_text}
+use Rattle.std.proofs.Common.{length, Ok, Err, ap}
+use Rattle.sst_cli.specs.Run.{text_for, done_text}
 use Rattle.sst_cli.specs.Refusals.{refusal_text}
 use Rattle.sst_cli.specs.Reading.{read_input}
 use Rattle.sst_cli.proofs.PrintedTexts.{some_printed, none_printed, text_that_says, some_text, same_entries, same_refusal, not_both, done_printed, refusal_printed}

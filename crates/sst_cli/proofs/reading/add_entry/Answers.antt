@@ -1,4 +1,3 @@
-use Rattle.std.proofs.Common.{◌≡◌, Err, sym, ap, ◌∙◌}
 use Rattle.sst_cli.specs.declared.reading.InputStop.TheVariants as stop
 use Rattle.sst_cli.proofs.ReadLines.{same_entry, entry_added, entry_refused, given_answer}
 use Rattle.sst_cli.proofs.reading.add_entry.Goals as goal

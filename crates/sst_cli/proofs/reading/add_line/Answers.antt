@@ -1,7 +1,6 @@
-use Rattle.std.proofs.Common.{◌≡◌, List, Some, None, Err, sym, ap, ◌∙◌, arith}
+use Rattle.std.proofs.Common.{List, sym, ap, ◌∙◌}
 use Rattle.std.proofs.lemmas.Result.{on_ok_weaker}
 use Rattle.sst_key.specs.declared.entries.Entry.{Entry}
-use Rattle.sst_cli.specs.Texts.{entry_of_line}
 use Rattle.sst_cli.specs.Reading.{by_entry}
 use Rattle.sst_cli.specs.declared.reading.InputStop.TheVariants as stop
 use Rattle.sst_cli.proofs.EntryLines.{entry_of_line-seq}

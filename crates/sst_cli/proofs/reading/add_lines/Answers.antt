@@ -1,11 +1,10 @@
-use Rattle.std.proofs.Common.{◌≡◌, ℕ, ◌+◌, ◌<◌, ◌≤◌, List, [], ◌∷◌, ◌++◌, length, take, drop, Some, Ok, Err, sym, ap, ◌∙◌, subst, arith}
+use Rattle.std.proofs.Common.{ℕ, ◌+◌, List, [], ◌∷◌, ◌++◌, length, take, drop, Err, sym, ap, subst, arith}
 use Rattle.std.proofs.lemmas.Result.{err_from_is_err_and}
 use Rattle.sst_cli.specs.declared.reading.InputStop.TheVariants as stop
-use Rattle.sst_cli.specs.Texts.{cut}
 use Rattle.sst_cli.specs.After.{After}
 use Rattle.sst_cli.proofs.Cut.{cut-length}
 use Rattle.sst_cli.proofs.ReadLines.{given_answer, passed_answer}
-use Rattle.sst_cli.proofs.Adding.{said_on, said_next, said_of, said_end, said_refused, said_long, said_unended, length-more, weight-falls, refused_here, line_refused_here, said_more}
+use Rattle.sst_cli.proofs.Adding.{said_on, said_of, said_end, said_long, said_unended, weight-falls, refused_here, line_refused_here, said_more}
 use Rattle.sst_cli.proofs.reading.add_lines.Goals as goal
 
 pub returns-in-End-clause-ok : goal.returns-in-End-clause-ok
@@ -78,7 +77,7 @@ returns-in-Long-clause-refused g c = λ refusal is text told.
     let said = said_on (g.I.Intake.left c.args.input.now) (g.I.Intake.left c.loop-lines.input) next c.loop-lines.lines c.read_line.new.self number kept.entries kept.said c.in_ok-found.ensures.told in
     let counted = c.count.ensures.exact kept.entries c.loop-lines.file.items kept.after in
     refused_here c.refused.result refusal text kept.entries c.count.result _ c.refused.ensures (given_answer c.refused.result (stop.Refused refusal) is) counted
-      (said_long next text number kept.entries c.read_line.new.self (said_of _ text _ said told) found)
+    (said_long next text number kept.entries c.read_line.new.self (said_of _ text _ said told) found)
 
 pub returns-in-Unended-clause-refused : goal.returns-in-Unended-clause-refused
 returns-in-Unended-clause-refused g c = λ refusal is text told.
@@ -89,4 +88,4 @@ returns-in-Unended-clause-refused g c = λ refusal is text told.
     let said = said_on (g.I.Intake.left c.args.input.now) (g.I.Intake.left c.loop-lines.input) next c.loop-lines.lines c.read_line.new.self number kept.entries kept.said c.in_ok-found.ensures.told in
     let counted = c.count-in-Unended.ensures.exact kept.entries c.loop-lines.file.items kept.after in
     refused_here c.refused-in-Unended.result refusal text kept.entries c.count-in-Unended.result _ c.refused-in-Unended.ensures (given_answer c.refused-in-Unended.result (stop.Refused refusal) is) counted
-      (said_unended next text number kept.entries c.read_line.new.self (said_of _ text _ said told) found.0 found.1 found.2 found.3)
+    (said_unended next text number kept.entries c.read_line.new.self (said_of _ text _ said told) found.0 found.1 found.2 found.3)
