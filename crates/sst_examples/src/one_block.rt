@@ -1,7 +1,9 @@
 //! One line written as one block: `sst write block one.sst` with one entry line on its input.
 //!
 //! The bytes of the files are those of an independent program; their places and sizes are worked by hand in the
-//! comments beside them. RocksDB: table/block_based/block_builder.cc, table/format.cc (`FooterBuilder::Build`).
+//! comments beside them, and RocksDB's `sst_dump` scans them.
+//!
+//! RocksDB: `BlockBuilder` in table/block_based/block_builder.cc, `FooterBuilder::Build` in table/format.cc.
 use crate::worked_run::{
     NONE_FAILS, Ran, holds, other_is_as_it_was, printed, run_on, run_with_stuck_sink,
 };
@@ -118,6 +120,25 @@ fn the_file_of_a_line(rt: HostRuntime) -> Result<(), Fail> {
         assert!(rt; printed(&ran, DONE), "on {input}");
         assert!(rt; holds(&ran, NAME, file), "on {input}");
         assert!(rt; other_is_as_it_was(&ran), "on {input}");
+    }
+    Ok(())
+}
+
+/// The number of the kind in the file that was written, where there is one: the low byte of the first row's tag,
+/// after the three lengths and a key of one byte.
+fn kind_of_first_row(ran: &Ran) -> Option<u8> {
+    let file = ran.folder.file(NAME)?;
+    file.get(4).copied()
+}
+
+// RocksDB: `ValueType` in db/dbformat.h.
+#[test]
+fn the_kinds(rt: HostRuntime) -> Result<(), Fail> {
+    for (letter, number) in [('D', 0), ('P', 1), ('M', 2), ('S', 7)] {
+        let line = format!(in rt.alloc(); "61 1 {letter} 78\n")?;
+        let ran = written(rt.alloc(), line.as_bytes())?;
+        assert_eq!(rt; ran.status, Status::Done, "of {letter}");
+        assert_eq!(rt; kind_of_first_row(&ran), Some(number), "of {letter}");
     }
     Ok(())
 }

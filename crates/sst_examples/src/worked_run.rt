@@ -104,3 +104,18 @@ pub(crate) fn printed(ran: &Ran, text: &str) -> bool {
 pub(crate) fn other_is_as_it_was(ran: &Ran) -> bool {
     holds(ran, OTHER, OTHER_BYTES.as_bytes())
 }
+
+#[test]
+fn the_number_of_each_status(rt: HostRuntime) {
+    for (status, number) in [
+        (Status::Done, 0),
+        (Status::Usage, 1),
+        (Status::Input, 2),
+        (Status::File, 3),
+        (Status::Exhausted, 4),
+        (Status::Device, 5),
+        (Status::Memory, 6),
+    ] {
+        assert_eq!(rt; status as u8, number);
+    }
+}
