@@ -1,13 +1,23 @@
-// A library with one function.
+//! Worked runs of the whole program.
+//!
+//! Each test hands words to `sst_cli::run` over a folder, an input and an output in memory, and compares the
+//! status, what is printed and the bytes of the file. What is proved of `run` holds for every input; these runs
+//! show what no clause says: that the definitions meant RocksDB's files and the texts that a caller reads, that a
+//! run with memory at hand succeeds, and what the calls outside that fail one by one lead to.
+//!
+//! ```text
+//! words    folder in memory ──┐
+//!   │      input in memory  ──┼── sst_cli::run ── status, what was printed, the files
+//!   └────  output in memory ──┘
+//! ```
+//!
+//! Expected bytes come from the worked layout of the format and from an independent program that writes the same
+//! files, never from the output of this program.
+//!
+//! - [`one_block`]: one line written as one block.
 #![tactic(auto)]
 
-ghost use Rattle.std.specs.Prelude.{◌≡◌};
-ghost use Rattle.sst_examples.specs.Echo.{echo_of};
-
-// The `ensures` clause is the contract: what `echo` returns is `echo_of` of its argument, a definition
-// in `specs/Echo.antt`, which a caller's clause can cite too.
-pub fn echo(x: usize) -> usize
-    ensures { result ≡ echo_of x }
-{
-    x
-}
+#[cfg(test)]
+mod one_block;
+#[cfg(test)]
+mod worked_run;

@@ -1,0 +1,121 @@
+//! A run of the program over a folder, an input and an output in memory.
+use sst_cli::device::memory::{MemFolder, MemIntake, MemSink};
+use sst_cli::{Status, run};
+use std::alloc::Global;
+use std::test::Fail;
+
+/// The file that stands in the folder before each run.
+const OTHER: &str = "other.sst";
+
+/// What that file holds.
+const OTHER_BYTES: &str = "12345678";
+
+/// The numbers of the calls that fail, counted from 1 for each object.
+#[derive(Clone, Copy, Debug)]
+pub(crate) struct Failing<'a> {
+    pub(crate) folder: &'a [u64],
+    pub(crate) intake: &'a [u64],
+    pub(crate) sink: &'a [u64],
+}
+
+/// No call fails.
+pub(crate) const NONE_FAILS: Failing<'static> = Failing {
+    folder: &[],
+    intake: &[],
+    sink: &[],
+};
+
+/// How a run ended, and what it left.
+#[derive(Debug, Drop)]
+pub(crate) struct Ran {
+    pub(crate) status: Status,
+    pub(crate) folder: MemFolder,
+    pub(crate) intake: MemIntake,
+    pub(crate) sink: MemSink,
+}
+
+/// The words as the program is handed them.
+fn owned(alloc: Global, words: &[&str]) -> Result<Vec<String>, Fail> {
+    let mut strings = Vec::new(alloc);
+    for word in words {
+        strings.push(String::from_str(alloc, word)?)?;
+    }
+    Ok(strings)
+}
+
+/// Runs the program on these words and this input, beside the other file.
+pub(crate) fn run_on(
+    alloc: Global,
+    words: &[&str],
+    input: &[u8],
+    failing: Failing<'_>,
+) -> Result<Ran, Fail> {
+    let folder = MemFolder::new(alloc, failing.folder)?;
+    let intake = MemIntake::new(alloc, input, failing.intake)?;
+    let sink = MemSink::new(alloc, failing.sink)?;
+    run_over(alloc, words, folder, intake, sink)
+}
+
+/// Runs the program over an output whose first call takes nothing.
+pub(crate) fn run_with_stuck_sink(
+    alloc: Global,
+    words: &[&str],
+    input: &[u8],
+) -> Result<Ran, Fail> {
+    let folder = MemFolder::new(alloc, &[])?;
+    let intake = MemIntake::new(alloc, input, &[])?;
+    let sink = MemSink::stuck(alloc, &[1])?;
+    run_over(alloc, words, folder, intake, sink)
+}
+
+/// Runs the program over these objects, with the other file in the folder.
+fn run_over(
+    alloc: Global,
+    words: &[&str],
+    mut folder: MemFolder,
+    mut intake: MemIntake,
+    mut sink: MemSink,
+) -> Result<Ran, Fail> {
+    let words = owned(alloc, words)?;
+    folder.put_file(OTHER, OTHER_BYTES.as_bytes())?;
+    let status = run(alloc, &words, &mut folder, &mut intake, &mut sink);
+    Ok(Ran {
+        status,
+        folder,
+        intake,
+        sink,
+    })
+}
+
+/// Whether the named file holds these bytes.
+pub(crate) fn holds(ran: &Ran, name: &str, bytes: &[u8]) -> bool {
+    match ran.folder.file(name) {
+        Some(found) => found == bytes,
+        None => false,
+    }
+}
+
+/// Whether this was printed, and nothing else.
+pub(crate) fn printed(ran: &Ran, text: &str) -> bool {
+    ran.sink.bytes() == text.as_bytes()
+}
+
+/// Whether the other file is as it was.
+pub(crate) fn other_is_as_it_was(ran: &Ran) -> bool {
+    holds(ran, OTHER, OTHER_BYTES.as_bytes())
+}
+
+#[test]
+fn the_number_of_each_status(rt: HostRuntime) {
+    for (status, number) in [
+        (Status::Done, 0),
+        (Status::Usage, 1),
+        (Status::Input, 2),
+        (Status::File, 3),
+        (Status::Exhausted, 4),
+        (Status::Device, 5),
+        (Status::Memory, 6),
+    ] {
+        assert_eq!(rt; status as u8, number);
+    }
+}
