@@ -6,17 +6,14 @@ use Rattle.sst_num.specs.Spelling.{varint, handle_spelling}
 use Rattle.sst_block.proofs.Size.{length-varint}
 use Rattle.sst_cli.specs.Meta.{footer_front, footer_back, footer_of}
 
+-- a handle is spelled in at most twenty bytes
+pub length-handle : (h : Handle) → length (handle_spelling h) ≤ 20
+length-handle h = omega (arith, length-append (varint h.offset) (varint h.size), length-varint h.offset, length-varint h.size)
+
 -- the front of a footer ends before its padding must
 pub length-footer_front : (metaindex index : Handle) → length (footer_front metaindex index) ≤ 41
 length-footer_front metaindex index =
-    let a = length-varint metaindex.offset in
-    let b = length-varint metaindex.size in
-    let c = length-varint index.offset in
-    let d = length-varint index.size in
-    let ab = length-append (varint metaindex.offset) (varint metaindex.size) in
-    let cd = length-append (varint index.offset) (varint index.size) in
-    let all = length-append (handle_spelling metaindex) (handle_spelling index) in
-    omega arith
+    omega (arith, length-append (handle_spelling metaindex) (handle_spelling index), length-handle metaindex, length-handle index)
 
 -- the front and its padding, after what stood there
 pub padded : (old first second third new : List ℕ) (metaindex index : Handle) (start len : ℕ)

@@ -1,49 +1,19 @@
 -- The line that is written for an entry reads back as the entry.
-use Rattle.std.proofs.Common.{◌≡◌, ◌≢◌, ℕ, zero, suc, ◌+◌, ◌-◌, ◌*◌, ◌/◌, ◌%◌, ◌^◌, ◌<◌, ◌≤◌, true, false, cond, List, [], ◌∷◌, ◌++◌, length, get_or, slice_index, All, Option, Some, None, option_and_then, refl, ap, ◌∙◌, arith}
+use Rattle.std.proofs.Common.{◌≡◌, ◌≢◌, ℕ, zero, suc, ◌+◌, ◌-◌, ◌*◌, ◌/◌, ◌%◌, ◌^◌, ◌<◌, ◌≤◌, true, false, cond, List, [], ◌∷◌, ◌++◌, length, get_or, Option, Some, None, option_and_then, refl, ap, ◌∙◌, arith}
 use Rattle.std.specs.Result.{result_ok}
 use Rattle.std.specs.Char.{is_ascii_digit}
 use Rattle.std.specs.Fmt.{decimal}
 use Rattle.std.proofs.lemmas.Fmt.{decimal_by_steps, decimal_digit, decimal_nonempty, first_decimal}
 use Rattle.std.proofs.lemmas.Bool.{ne_eqb}
 use Rattle.std.proofs.lemmas.Bool.Decides.{nat_tests}
-use Rattle.std.proofs.lemmas.List.Elements.{All-nil, All-cons, All-head, All-tail, All-push}
-use Rattle.hex.specs.Hex.{IsBytes, encode_with, lower_digits, hex_digit_value}
-use Rattle.hex.proofs.HexLemmas.{IsDigits-lower_digits, decode_of-encode_lower}
+use Rattle.hex.specs.Hex.{IsBytes, encode_with}
+use Rattle.hex.proofs.HexLemmas.{decode_of-encode_lower}
 use Rattle.sst_key.specs.declared.entries.Kind.{Kind}
 use Rattle.sst_key.specs.declared.entries.Kind.TheVariants.{Deletion, Value, Merge, SingleDeletion}
 use Rattle.sst_key.specs.declared.entries.Entry.{Entry}
 use Rattle.sst_cli.specs.Texts.{cut, bytes_field, digits_from, in_range, seq_field, kind_field, Fields, fields_of, entry_of_fields, entry_of_line}
+use Rattle.sst_cli.proofs.FieldBytes.{IsStop, hex_text-avoids, decimal-avoids, letter_text-avoids, cut-front}
 use Rattle.sst_cli.specs.EntryText.{hex_text, kind_letter, entry_line}
-
--- no byte of a text is a blank
-abbrev NoBlank : List ℕ → Type 0
-NoBlank text = All (λ c. c ≢ 32) text
-
--- what stands before the first blank, and what stands after it
-cut-front : (front rest : List ℕ) → NoBlank front → cut 32 (front ++ (32 ∷ rest)) ≡ Some (front, rest)
-cut-front [] rest none = refl
-cut-front (x ∷ front) rest none =
-    let other = ne_eqb x 32 (All-head (λ c. c ≢ 32) x front none) in
-    let more = cut-front front rest (All-tail (λ c. c ≢ 32) x front none) in
-    rw (other, more) refl
-
--- no hex digit is a blank
-digit-no_blank : (d : ℕ) → d < 16 → slice_index lower_digits d ≢ 32
-digit-no_blank d low blank = cc (IsDigits-lower_digits d low, ap hex_digit_value blank)
-
-hex-no_blank : (bytes : List ℕ) → IsBytes bytes → NoBlank (encode_with lower_digits bytes)
-unfolding encode_with
-hex-no_blank [] are = All-nil (λ c. c ≢ 32)
-hex-no_blank (b ∷ rest) are =
-    let small : b < 256 = are 0 in
-    let high : b / 16 < 16 = omega arith in
-    let low : b % 16 < 16 = omega arith in
-    All-cons (λ c. c ≢ 32) (slice_index lower_digits (b / 16)) (slice_index lower_digits (b % 16) ∷ encode_with lower_digits rest) (digit-no_blank (b / 16) high)
-    (All-cons (λ c. c ≢ 32) (slice_index lower_digits (b % 16)) (encode_with lower_digits rest) (digit-no_blank (b % 16) low) (hex-no_blank rest (λ k. are (suc k))))
-
-hex_text-no_blank : (bytes : List ℕ) → IsBytes bytes → NoBlank (hex_text bytes)
-hex_text-no_blank [] are = All-cons (λ c. c ≢ 32) 45 [] (λ e. omega arith) (All-nil (λ c. c ≢ 32))
-hex_text-no_blank (b ∷ rest) are = hex-no_blank (b ∷ rest) are
 
 -- a user key or a value reads back
 bytes_field-hex_text : (bytes : List ℕ) → IsBytes bytes → bytes_field (hex_text bytes) ≡ Some bytes
@@ -68,30 +38,22 @@ digits_from-push value (d ∷ digits) c =
       | false ↦ refl
     ]
 
--- a text has no blank and spells the number
-record Spells (n : ℕ) (text : List ℕ) : Type 0 where
-  no_blank : NoBlank text
-  reads : digits_from 0 text ≡ Some n
+-- a text spells the number
+abbrev Spells : ℕ → List ℕ → Type 0
+Spells n text = digits_from 0 text ≡ Some n
 
 Spells-one : (n : ℕ) → n < 10 → Spells n ((48 + n) ∷ [])
-Spells-one n low = record {
-  no_blank = All-cons (λ c. c ≢ 32) (48 + n) [] (λ e. omega arith) (All-nil (λ c. c ≢ 32));
-  reads =
-      let digit = is_digit n low in
-      let value : 0 * 10 + (48 + n - 48) ≡ n = omega arith in
-      rw (digit, value) refl;
-}
+Spells-one n low =
+    let digit = is_digit n low in
+    let value : 0 * 10 + (48 + n - 48) ≡ n = omega arith in
+    rw (digit, value) refl
 
 Spells-more : (n : ℕ) (text : List ℕ) → 10 ≤ n → Spells (n / 10) text → Spells n (text ++ ((48 + n % 10) ∷ []))
-Spells-more n text large front = record {
-  no_blank = All-push (λ c. c ≢ 32) text (48 + n % 10) front.no_blank (λ e. omega arith);
-  reads =
-      let last : n % 10 < 10 = omega arith in
-      let digit = is_digit (n % 10) last in
-      let value : n / 10 * 10 + (48 + n % 10 - 48) ≡ n = omega arith in
-      let before = front.reads in
-      digits_from-push 0 text (48 + n % 10) ∙ rw (before, digit, value) refl;
-}
+Spells-more n text large front =
+    let last : n % 10 < 10 = omega arith in
+    let digit = is_digit (n % 10) last in
+    let value : n / 10 * 10 + (48 + n % 10 - 48) ≡ n = omega arith in
+    digits_from-push 0 text (48 + n % 10) ∙ rw (front, digit, value) refl
 
 Spells-decimal : (n : ℕ) → n < 2 ^ 64 → Spells n (decimal n)
 Spells-decimal n h = decimal_by_steps Spells Spells-one Spells-more n h
@@ -114,7 +76,7 @@ seq_field-spelled n (c ∷ d ∷ rest) reads h some no_zero =
 seq_field-decimal : (n : ℕ) → n < 2 ^ 56 → seq_field (decimal n) ≡ Some n
 seq_field-decimal n h =
     let fits : n < 2 ^ 64 = omega arith in
-    seq_field-spelled n (decimal n) (Spells-decimal n fits).reads h (decimal_nonempty n fits) (no_leading_zero n fits)
+    seq_field-spelled n (decimal n) (Spells-decimal n fits) h (decimal_nonempty n fits) (no_leading_zero n fits)
 
 -- ---- the line
 
@@ -123,12 +85,6 @@ kind_field-letter Deletion = refl
 kind_field-letter Value = refl
 kind_field-letter Merge = refl
 kind_field-letter SingleDeletion = refl
-
-letter-no_blank : (kind : Kind) → kind_letter kind ≢ 32
-letter-no_blank Deletion = λ e. omega arith
-letter-no_blank Value = λ e. omega arith
-letter-no_blank Merge = λ e. omega arith
-letter-no_blank SingleDeletion = λ e. omega arith
 
 -- the fields of a line that is cut three times
 fields_of-parts : (line user after digits last letter value : List ℕ) (seq : ℕ) (kind : Kind)
@@ -144,10 +100,11 @@ fields_of-entry_line : (e : Entry) → IsBytes e.user → e.seq < 2 ^ 56
 fields_of-entry_line e user seq =
     let fits : e.seq < 2 ^ 64 = omega arith in
     let last = kind_letter e.kind ∷ 32 ∷ hex_text e.value in
+    let stop : IsStop 32 = (omega arith, refl) in
     fields_of-parts (entry_line e) (hex_text e.user) (decimal e.seq ++ (32 ∷ last)) (decimal e.seq) last (kind_letter e.kind ∷ []) (hex_text e.value) e.seq e.kind
-    (cut-front (hex_text e.user) (decimal e.seq ++ (32 ∷ last)) (hex_text-no_blank e.user user))
-    (cut-front (decimal e.seq) last (Spells-decimal e.seq fits).no_blank)
-    (cut-front (kind_letter e.kind ∷ []) (hex_text e.value) (All-cons (λ c. c ≢ 32) (kind_letter e.kind) [] (letter-no_blank e.kind) (All-nil (λ c. c ≢ 32))))
+    (cut-front 32 (hex_text e.user) (decimal e.seq ++ (32 ∷ last)) (hex_text-avoids 32 e.user stop user))
+    (cut-front 32 (decimal e.seq) last (decimal-avoids 32 e.seq stop fits))
+    (cut-front 32 (kind_letter e.kind ∷ []) (hex_text e.value) (letter_text-avoids 32 e.kind stop))
     (seq_field-decimal e.seq seq) (kind_field-letter e.kind)
 
 entry_of_fields-texts : (fields : Fields) (user value : List ℕ) → bytes_field fields.user ≡ Some user → bytes_field fields.value ≡ Some value

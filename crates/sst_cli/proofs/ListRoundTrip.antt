@@ -1,86 +1,45 @@
 -- The text of a list reads back as the list.
-use Rattle.std.proofs.Common.{◌≡◌, ◌≢◌, inl, inr, ℕ, suc, ◌+◌, ◌*◌, ◌/◌, ◌%◌, ◌^◌, ◌<◌, ◌≤◌, ◌==◌, true, false, cond, List, [], ◌∷◌, ◌++◌, length, slice_index, All, Option, Some, None, Ok, refl, sym, ap, ◌∙◌, subst, append_assoc, length-append, arith}
+use Rattle.std.proofs.Common.{◌≡◌, ◌≢◌, inl, inr, ℕ, ◌+◌, ◌*◌, ◌^◌, ◌<◌, ◌≤◌, ◌==◌, true, false, cond, List, [], ◌∷◌, ◌++◌, length, All, Option, Some, None, Ok, refl, sym, ap, ◌∙◌, subst, append_assoc, length-append, arith}
 use Rattle.std.specs.Fmt.{decimal}
 use Rattle.std.specs.Option.{option_map}
 use Rattle.std.specs.Ordering.{is_lt}
-use Rattle.std.proofs.lemmas.Bool.{ne_eqb, le-ltb}
-use Rattle.std.proofs.lemmas.Fmt.{decimal_by_steps, length-decimal-le}
+use Rattle.std.proofs.lemmas.Bool.{le-ltb}
+use Rattle.std.proofs.lemmas.Fmt.{length-decimal-le}
 use Rattle.std.proofs.lemmas.List.{append-nil}
-use Rattle.std.proofs.lemmas.List.Elements.{All-nil, All-cons, All-head, All-tail, All-push, All-append, All-contains, Contains-push}
+use Rattle.std.proofs.lemmas.List.Elements.{All-nil, All-cons, All-head, All-tail, All-append, All-contains, Contains-push}
 use Rattle.std.proofs.lemmas.List.Sums.{sum_by-append}
-use Rattle.hex.specs.Hex.{IsBytes, encode_with, lower_digits, hex_digit_value}
-use Rattle.hex.proofs.HexLemmas.{IsDigits-lower_digits, length-encode_with}
-use Rattle.sst_key.specs.declared.entries.Kind.{Kind}
-use Rattle.sst_key.specs.declared.entries.Kind.TheVariants.{Deletion, Value, Merge, SingleDeletion}
+use Rattle.hex.specs.Hex.{IsBytes, lower_digits}
+use Rattle.hex.proofs.HexLemmas.{length-encode_with}
 use Rattle.sst_key.specs.declared.entries.Entry.{Entry}
 use Rattle.sst_key.specs.Entry.{IsOrdered, weight, entry_weight}
 use Rattle.sst_cli.specs.Texts.{cut, entry_of_line}
 use Rattle.sst_cli.specs.EntryText.{hex_text, kind_letter, entry_line, lines_text, AreBytes}
 use Rattle.sst_cli.specs.Reasons.{is_after, reason}
 use Rattle.sst_cli.specs.Reading.{onto_first, pieces_of, by_reason, by_entry, read_line, read_pieces, read_from, read_input}
-use Rattle.sst_cli.specs.Written.{IsInLimits, ComesAfter, Fits}
+use Rattle.sst_cli.specs.Written.{IsInLimits, Fits}
+use Rattle.sst_cli.proofs.FieldBytes.{Avoids, IsStop, hex_text-avoids, decimal-avoids, letter_text-avoids, cut-none}
 use Rattle.sst_cli.proofs.LineRoundTrip.{entry_of_line-entry_line}
-use Rattle.sst_cli.proofs.Rows.{weight-append, IsOrdered-last}
+use Rattle.sst_cli.proofs.Rows.{ComesAfter, weight-append, IsOrdered-last}
 
 -- ---- the line of an entry has no line end
 
--- no byte of a text is a line end
-abbrev NoEnd : List ℕ → Type 0
-NoEnd text = All (λ c. c ≢ 10) text
-
-digit-no_end : (d : ℕ) → d < 16 → slice_index lower_digits d ≢ 10
-digit-no_end d low is = cc (IsDigits-lower_digits d low, ap hex_digit_value is)
-
-hex-no_end : (bytes : List ℕ) → IsBytes bytes → NoEnd (encode_with lower_digits bytes)
-unfolding encode_with
-hex-no_end [] are = All-nil (λ c. c ≢ 10)
-hex-no_end (b ∷ rest) are =
-    let small : b < 256 = are 0 in
-    let high : b / 16 < 16 = omega arith in
-    let low : b % 16 < 16 = omega arith in
-    All-cons (λ c. c ≢ 10) (slice_index lower_digits (b / 16)) (slice_index lower_digits (b % 16) ∷ encode_with lower_digits rest) (digit-no_end (b / 16) high)
-    (All-cons (λ c. c ≢ 10) (slice_index lower_digits (b % 16)) (encode_with lower_digits rest) (digit-no_end (b % 16) low) (hex-no_end rest (λ k. are (suc k))))
-
-hex_text-no_end : (bytes : List ℕ) → IsBytes bytes → NoEnd (hex_text bytes)
-hex_text-no_end [] are = All-cons (λ c. c ≢ 10) 45 [] (λ e. omega arith) (All-nil (λ c. c ≢ 10))
-hex_text-no_end (b ∷ rest) are = hex-no_end (b ∷ rest) are
-
-decimal-no_end : (n : ℕ) → n < 2 ^ 64 → NoEnd (decimal n)
-decimal-no_end n h =
-    decimal_by_steps (λ n digits. NoEnd digits)
-    (λ n low. All-cons (λ c. c ≢ 10) (48 + n) [] (λ e. omega arith) (All-nil (λ c. c ≢ 10)))
-    (λ n digits large front. All-push (λ c. c ≢ 10) digits (48 + n % 10) front (λ e. omega arith)) n h
-
-letter-no_end : (kind : Kind) → kind_letter kind ≢ 10
-letter-no_end Deletion = λ e. omega arith
-letter-no_end Value = λ e. omega arith
-letter-no_end Merge = λ e. omega arith
-letter-no_end SingleDeletion = λ e. omega arith
-
 -- a blank between two texts is no line end
-blank-no_end : (front rest : List ℕ) → NoEnd front → NoEnd rest → NoEnd (front ++ (32 ∷ rest))
-blank-no_end front rest before after =
+blank-avoids : (front rest : List ℕ) → Avoids 10 front → Avoids 10 rest → Avoids 10 (front ++ (32 ∷ rest))
+blank-avoids front rest before after =
     All-append (λ c. c ≢ 10) front (32 ∷ rest) before (All-cons (λ c. c ≢ 10) 32 rest (λ e. omega arith) after)
 
-line-no_end : (e : Entry) → IsBytes e.user → IsBytes e.value → e.seq < 2 ^ 56 → NoEnd (entry_line e)
-line-no_end e user value seq =
+line-avoids : (e : Entry) → IsBytes e.user → IsBytes e.value → e.seq < 2 ^ 56 → Avoids 10 (entry_line e)
+line-avoids e user value seq =
     let letter = kind_letter e.kind ∷ [] in
     let last = letter ++ (32 ∷ hex_text e.value) in
-    let one : NoEnd letter = All-cons (λ c. c ≢ 10) (kind_letter e.kind) [] (letter-no_end e.kind) (All-nil (λ c. c ≢ 10)) in
+    let stop : IsStop 10 = (omega arith, refl) in
     let fits : e.seq < 2 ^ 64 = omega arith in
-    blank-no_end (hex_text e.user) (decimal e.seq ++ (32 ∷ last)) (hex_text-no_end e.user user)
-    (blank-no_end (decimal e.seq) last (decimal-no_end e.seq fits) (blank-no_end letter (hex_text e.value) one (hex_text-no_end e.value value)))
-
--- no line end, no cut there
-cut-no_end : (text : List ℕ) → NoEnd text → cut 10 text ≡ None
-cut-no_end [] none = refl
-cut-no_end (b ∷ text) none =
-    let other = ne_eqb b 10 (All-head (λ c. c ≢ 10) b text none) in
-    let more = cut-no_end text (All-tail (λ c. c ≢ 10) b text none) in
-    rw (other, more) refl
+    blank-avoids (hex_text e.user) (decimal e.seq ++ (32 ∷ last)) (hex_text-avoids 10 e.user stop user)
+    (blank-avoids (decimal e.seq) last (decimal-avoids 10 e.seq stop fits)
+    (blank-avoids letter (hex_text e.value) (letter_text-avoids 10 e.kind stop) (hex_text-avoids 10 e.value stop value)))
 
 pub entry_line-no_end : (e : Entry) → IsBytes e.user → IsBytes e.value → e.seq < 2 ^ 56 → cut 10 (entry_line e) ≡ None
-entry_line-no_end e user value seq = cut-no_end (entry_line e) (line-no_end e user value seq)
+entry_line-no_end e user value seq = cut-none 10 (entry_line e) (line-avoids e user value seq)
 
 -- ---- the line of an entry is short
 

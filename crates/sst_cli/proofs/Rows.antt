@@ -1,5 +1,5 @@
 -- The rows of a list of entries, and a list that is written with one entry more.
-use Rattle.std.proofs.Common.{◌≡◌, inl, inr, ℕ, ◌+◌, ◌^◌, ◌<◌, ◌≤◌, List, [], ◌∷◌, ◌++◌, length, length-append, All, refl, sym, ap, ◌∙◌, subst, sum_by, arith}
+use Rattle.std.proofs.Common.{◌≡◌, ◌⊎◌, inl, inr, ℕ, ◌+◌, ◌^◌, ◌<◌, ◌≤◌, List, [], ◌∷◌, ◌++◌, length, length-append, All, refl, sym, ap, ◌∙◌, subst, sum_by, arith}
 use Rattle.std.proofs.lemmas.List.{map-append}
 use Rattle.std.proofs.lemmas.List.Elements.{All-nil, All-cons, All-head, All-tail, All-push}
 use Rattle.std.proofs.lemmas.List.Sums.{sum_by-cons, sum_by_push}
@@ -17,7 +17,7 @@ use Rattle.sst_block.specs.Chosen.{block_of}
 use Rattle.sst_block.proofs.Size.{block_of-le}
 use Rattle.sst_block.proofs.Steps.{last_key-more, ordered-more, ordered-last}
 use Rattle.sst_cli.specs.BlockBased.{row_of, rows_of}
-use Rattle.sst_cli.specs.Written.{IsInLimits, ComesAfter, Fits}
+use Rattle.sst_cli.specs.Written.{IsInLimits, Fits}
 
 pub rows_of-append : (entries : List Entry) (e : Entry) → rows_of (entries ++ e ∷ []) ≡ rows_of entries ++ row_of e ∷ []
 rows_of-append entries e = map-append row_of entries (e ∷ [])
@@ -85,6 +85,10 @@ rows_of-short entries light = omega (arith, block_of-le 16 (rows_of entries), ro
 
 pub weight-append : (entries : List Entry) (e : Entry) → weight (entries ++ e ∷ []) ≡ weight entries + entry_weight e
 weight-append entries e = sum_by_push entry_weight entries e
+
+-- the entry may come after the list: the list is empty, or the key of its last row is before the entry's key
+abbrev pub ComesAfter : Entry → List Entry → Type 0
+ComesAfter e entries = (entries ≡ []) ⊎ (internal_cmp (last_key [] (rows_of entries)) (key_of e) ≡ Less)
 
 -- the rows with one more are in order
 rows-ordered-more : (entries : List Entry) (e : Entry) → AreOrdered Entries (rows_of entries) → ComesAfter e entries → AreOrdered Entries (rows_of entries ++ row_of e ∷ [])

@@ -5,7 +5,7 @@ use Rattle.std.proofs.lemmas.List.Elements.{All-nil, All-cons}
 use Rattle.std.proofs.lemmas.List.Sums.{sum_by-cons}
 use Rattle.std.specs.declared.cmp.Ordering.TheVariants.{Equal, Greater}
 use Rattle.std.specs.Cmp.{nat_cmp_is}
-use Rattle.sst_num.specs.Spelling.{varint, handle_spelling}
+use Rattle.sst_num.specs.Spelling.{handle_spelling}
 use Rattle.sst_num.specs.declared.block_handle.Handle.{Handle}
 use Rattle.sst_key.specs.declared.entries.Entry.{Entry}
 use Rattle.sst_key.specs.InternalKey.{internal_cmp, user_of, tag_of}
@@ -14,11 +14,12 @@ use Rattle.sst_block.specs.declared.row_form.RowForm.TheVariants.{Entries, Names
 use Rattle.sst_block.specs.Block.{Row, Block, IsRow}
 use Rattle.sst_block.specs.Builder.{last_key, row_room}
 use Rattle.sst_block.proofs.BlockLaws.{block_of_is_block}
-use Rattle.sst_block.proofs.Size.{block_of-le, length-varint}
+use Rattle.sst_block.proofs.Size.{block_of-le}
 use Rattle.sst_cli.specs.Framed.{Framed, frame_of, trailer_of}
 use Rattle.sst_cli.specs.Meta.{Meta, footer_front, footer_back, footer_of}
 use Rattle.sst_cli.specs.BlockBased.{rows_of, Runs, BlockBased}
 use Rattle.sst_cli.specs.Written.{Fits, data_block, data_handle, data_part, index_rows, index_block, index_handle, metaindex_block, metaindex_handle, table_of, Written}
+use Rattle.sst_cli.proofs.Footers.{length-handle, length-footer_front}
 use Rattle.sst_cli.proofs.Frames.{frame-framed}
 use Rattle.sst_cli.proofs.Rows.{last_key-of_some, rows_of-forms, rows_of-ordered, rows_of-short}
 
@@ -44,14 +45,6 @@ length-before_footer : (blocks index names : List ℕ) → length (before_footer
 unfolding before_footer
 length-before_footer blocks index names =
     omega (arith, length-append blocks (frame_of index ++ frame_of names), length-append (frame_of index) (frame_of names), length-frame index, length-frame names)
-
--- a handle is spelled in at most twenty bytes
-length-handle : (h : Handle) → length (handle_spelling h) ≤ 20
-length-handle h = omega (arith, length-append (varint h.offset) (varint h.size), length-varint h.offset, length-varint h.size)
-
-length-footer_front : (metaindex index : Handle) → length (footer_front metaindex index) ≤ 41
-length-footer_front metaindex index =
-    omega (arith, length-append (handle_spelling metaindex) (handle_spelling index), length-handle metaindex, length-handle index)
 
 -- the padding fills up the front of the footer
 footer-padded : (metaindex index : Handle) → length (footer_front metaindex index) + length {A = ℕ} (replicate (41 - length (footer_front metaindex index)) 0) ≡ 41

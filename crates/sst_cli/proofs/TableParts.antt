@@ -3,13 +3,13 @@ use Rattle.std.proofs.Common.{◌≡◌, ℕ, ◌+◌, ◌-◌, ◌^◌, ◌<◌
 use Rattle.std.proofs.lemmas.List.Elements.{All-head}
 use Rattle.std.proofs.lemmas.List.Sums.{sum_by-cons}
 use Rattle.sst_num.specs.declared.block_handle.Handle.{Handle}
-use Rattle.sst_num.specs.Spelling.{varint, handle_spelling}
+use Rattle.sst_num.specs.Spelling.{handle_spelling}
 use Rattle.sst_block.specs.declared.row_form.RowForm.TheVariants.{Index}
 use Rattle.sst_block.specs.declared.builder.BlockBuilder.{BlockBuilder}
 use Rattle.sst_block.specs.Block.{Row, IsRow}
 use Rattle.sst_block.specs.Builder.{Holds, CanAdd, row_room, last_key}
 use Rattle.sst_block.specs.Chosen.{block_of}
-use Rattle.sst_block.proofs.Size.{length-varint, can_add}
+use Rattle.sst_block.proofs.Size.{can_add}
 use Rattle.sst_key.specs.declared.entries.Entry.{Entry}
 use Rattle.sst_cli.specs.After.{data_of}
 use Rattle.sst_cli.specs.BlockBased.{rows_of}
@@ -17,6 +17,7 @@ use Rattle.sst_cli.specs.Framed.{frame_of}
 use Rattle.sst_cli.specs.Meta.{footer_of}
 use Rattle.sst_cli.specs.TableParts.{index_rows_by}
 use Rattle.sst_cli.specs.Written.{Fits, data_part, index_rows, index_block, index_handle, metaindex_block, metaindex_handle, table_of}
+use Rattle.sst_cli.proofs.Footers.{length-handle}
 use Rattle.sst_cli.proofs.Stands.{length-frame, index-form}
 
 -- a builder of an index that has no row takes the row of the data block
@@ -27,9 +28,7 @@ index_takes b key value place handle holds there rows is =
     let row : Row = record { key = key; value = handle_spelling handle } in
     let fits : IsRow (Index false false) row =
     All-head (IsRow (Index false false)) row [] (subst (λ p. All (IsRow (Index false false)) (index_rows_by p key)) there rows) in
-    let long = length-append (varint handle.offset) (varint handle.size) in
-    let first = length-varint handle.offset in
-    let second = length-varint handle.size in
+    let long = length-handle handle in
     let sum = sum_by-cons row_room row [] in
     let short = fits.0 in
     let room : sum_by row_room (row ∷ []) + 8 < 2 ^ 29 = omega arith in

@@ -2,13 +2,11 @@
 -- it takes. RocksDB: BlockBasedTableBuilder::Add and Finish in
 -- table/block_based/block_based_table_builder.cc. The choices are this project's own. For now the entries stand
 -- in one data block, and there are no properties.
-use Rattle.std.specs.Prelude.{◌≡◌, ◌⊎◌, ℕ, ◌+◌, ◌^◌, ◌<◌, ◌≤◌, List, [], ◌∷◌, ◌++◌, length, All}
-use Rattle.std.specs.declared.cmp.Ordering.TheVariants.{Less}
+use Rattle.std.specs.Prelude.{◌≡◌, ℕ, ◌+◌, ◌^◌, ◌<◌, ◌≤◌, List, [], ◌∷◌, ◌++◌, length, All}
 use Rattle.sst_num.specs.Spelling.{handle_spelling}
 use Rattle.sst_num.specs.declared.block_handle.Handle.{Handle}
 use Rattle.sst_key.specs.declared.entries.Entry.{Entry}
-use Rattle.sst_key.specs.Entry.{key_of, IsOrdered, weight}
-use Rattle.sst_key.specs.InternalKey.{internal_cmp}
+use Rattle.sst_key.specs.Entry.{IsOrdered, weight}
 use Rattle.sst_block.specs.Block.{Row}
 use Rattle.sst_block.specs.Builder.{last_key}
 use Rattle.sst_block.specs.Chosen.{block_of}
@@ -21,10 +19,6 @@ pub record IsInLimits (e : Entry) : Type 0 where
   pub key : length e.user ≤ 65536
   pub value : length e.value ≤ 16777216
   pub seq : e.seq < 2 ^ 56
-
--- the entry may come after the list: the list is empty, or the key of its last row is before the entry's key
-abbrev pub ComesAfter : Entry → List Entry → Type 0
-ComesAfter e entries = (entries ≡ []) ⊎ (internal_cmp (last_key [] (rows_of entries)) (key_of e) ≡ Less)
 
 -- a list that is written: it increases, each entry is within its limits, and so is their weight
 pub record Fits (entries : List Entry) : Type 0 where
