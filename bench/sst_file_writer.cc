@@ -19,24 +19,31 @@
 
 namespace {
 
-// The value of a hex digit, or -1.
-int digit(char c) {
-  if (c >= '0' && c <= '9') return c - '0';
-  if (c >= 'a' && c <= 'f') return c - 'a' + 10;
-  if (c >= 'A' && c <= 'F') return c - 'A' + 10;
-  return -1;
-}
+// The value of each hex digit, and -1 for each other byte.
+struct Digits {
+  signed char value[256];
+  Digits() {
+    memset(value, -1, sizeof value);
+    for (int i = 0; i < 10; i++) value['0' + i] = static_cast<signed char>(i);
+    for (int i = 0; i < 6; i++) value['a' + i] = value['A' + i] = static_cast<signed char>(10 + i);
+  }
+  int operator[](char c) const { return value[static_cast<unsigned char>(c)]; }
+};
+
+const Digits digits;
 
 // Reads the bytes of a field: hex digits, or `-` for none.
 bool bytes_of(const char *at, const char *end, std::string *bytes) {
   bytes->clear();
   if (end - at == 1 && *at == '-') return true;
   if (at == end || (end - at) % 2 != 0) return false;
-  for (; at < end; at += 2) {
-    const int high = digit(at[0]);
-    const int low = digit(at[1]);
-    if (high < 0 || low < 0) return false;
-    bytes->push_back(static_cast<char>(high * 16 + low));
+  bytes->resize(static_cast<size_t>(end - at) / 2);
+  for (char &byte : *bytes) {
+    const int high = digits[at[0]];
+    const int low = digits[at[1]];
+    if ((high | low) < 0) return false;
+    byte = static_cast<char>(high * 16 + low);
+    at += 2;
   }
   return true;
 }
