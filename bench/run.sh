@@ -9,7 +9,7 @@
 # ratios: they say more than times, of a machine that does other work. The last line checks the memory: a peak of
 # more than four times the file is a failure, status 1.
 #
-# What it needs beside `sst`: g++, RocksDB's headers and library (Debian: librocksdb-dev), GNU time, and 3 GB of
+# What it needs beside `sst`: g++, RocksDB's headers and library (Debian: librocksdb-dev), GNU time, and 1 GB of
 # room in TMPDIR. Where one is missing it says so, and ends with status 0.
 set -u
 cd "$(dirname "${BASH_SOURCE[0]}")/.." || exit 1
