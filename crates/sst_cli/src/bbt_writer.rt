@@ -1,3 +1,8 @@
+//! The writer of block-based files: entries are added in order, or refused for the first reason in a fixed
+//! order.
+//!
+//! What it keeps after a list is `After` (specs/After.antt): the data block so far, the last key, and what
+//! counts towards the limits.
 ghost use Rattle.std.specs.Prelude.{◌≡◌, ℕ, ◌<◌, ◌≤◌, ◌^◌, List, [], ◌∷◌, ◌++◌, length, Some, None, Err, IsErr, IfOk, OnOk, OnErr};
 ghost use Rattle.sst_key.specs.Entry.{entry_of, key_of};
 ghost use Rattle.sst_key.specs.Entry.{weight as weight_of};

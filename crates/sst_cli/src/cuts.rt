@@ -1,3 +1,4 @@
+//! Where a byte stands in a text, and the text cut there.
 ghost use Rattle.std.specs.Prelude.{◌≡◌, ℕ, ◌<◌, List, length, take, drop, None, Some, MatchOption};
 ghost use Rattle.std.specs.Option.{option_map};
 ghost use Rattle.sst_cli.specs.Texts as texts;

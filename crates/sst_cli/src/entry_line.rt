@@ -1,3 +1,4 @@
+//! The entry of a line, `USER SEQ KIND VALUE`. The fields and the letters are this project's own.
 ghost use Rattle.std.specs.Prelude.{◌≡◌, ℕ, ◌<◌, ◌^◌, List, Option, Some, None, option_and_then, IfOk, MatchOption};
 ghost use Rattle.std.specs.Option.{option_map};
 ghost use Rattle.sst_key.specs.declared.entries.Entry as entry;

@@ -1,3 +1,4 @@
+//! The footer of 53 bytes, which ends a file and says where the metaindex and the index stand.
 ghost use Rattle.std.specs.Prelude.{◌≡◌, ℕ, ◌-◌, List, ◌++◌, length, replicate, OnOk, OnErr};
 ghost use Rattle.sst_cli.specs.Meta.{footer_of, footer_front};
 

@@ -1,4 +1,71 @@
-//! The program over the outside.
+//! The program over the outside: the words of a command line, the lines of its input, and [`run`], which
+//! carries the command out over a folder, an input and an output.
+//!
+//! # The way of a command
+//!
+//! ```text
+//!               out_name
+//! words ------------------------> name of OUT ------------------- begin, add -------------> file
+//!                                                                                            ^
+//!               LineReader          entry_of_line          BbtWriter: add, finish            |
+//! input ----------------> lines ----------------> entries -----------------------> bytes ----+
+//!                           |                        |                               |
+//!                           | line-long, line        | not-increasing, key-long,     | how many
+//!                           |                        | value-long, heavy             |
+//!                           v                        v                               v
+//! output <----------- input N REASON, or usage where the words are no command      wrote N
+//! ```
+//!
+//! - Words: there is one command, `write block OUT`. All others are Usage.
+//! - Lines: an input is a list of lines, and a line is an entry, `USER SEQ KIND VALUE`: the user key and the
+//!   value in hex digits or `-`, a decimal sequence number, and one of the letters D, P, M and S. Each line
+//!   ends with LF.
+//! - Entries: each is after the one before and within the limits, as the writer has them. The first line that
+//!   isn't so ends the run, and its number and its first reason are printed.
+//! - File: all of a list that fits, the empty one too, in one block-based file.
+//!
+//! # An example
+//!
+//! `write block OUT` with the input `61 1 P 78` and LF prints `wrote 1` and LF, and leaves a file of 119
+//! bytes:
+//!
+//! ```text
+//!  at  bytes                                       what they are
+//!   0  00 09 01 61 01 01 00 00 00 00 00 00 78      the data block: the row of the entry,
+//!  13  00 00 00 00 01 00 00 00                     and one restart
+//!  21  00 84 dd 88 74                              its trailer: type byte, checksum
+//!  26  00 09 02 61 01 01 00 00 00 00 00 00 00 15   the index block: the last key leads to the block of
+//!                                                  21 bytes at 0,
+//!  40  00 00 00 00 01 00 00 00                     and one restart
+//!  48  00 36 49 25 bf                              its trailer
+//!  53  00 00 00 00 01 00 00 00                     the metaindex block: no row, and one restart
+//!  61  00 c0 f2 a1 b0                              its trailer
+//!  66  01 35 08 1a 16                              the footer: the checksum type, the metaindex of 8 bytes
+//!                                                  at 53, the index of 22 bytes at 26,
+//!  71  00 .. 00                                    36 zeros,
+//! 107  02 00 00 00 f7 cf f4 85 b7 41 e2 88         the version and the magic number
+//! ```
+//!
+//! RocksDB: the wiki page "Rocksdb BlockBasedTable Format"; table/block_based/block_based_table_builder.cc
+//! and table/format.cc. The words and the lines are this project's own.
+//!
+//! # What is promised
+//!
+//! - For each list that fits (`Fits`, specs/Written.antt), given as the lines of its entries (`lines_text`,
+//!   specs/EntryText.antt), OUT holds what is `Written` for it, `wrote N` is printed, and the input is read
+//!   to its end; but for a fault of the outside and for want of memory. The same holds of each text that says
+//!   a list (`read_input`, specs/Reading.antt).
+//! - For each other text the first refusal is printed, a line and a reason, but for the same.
+//! - What is `Written` for a list stands for it ([`written_file_stands_for_its_list`]), an entry's line reads
+//!   back as the entry ([`an_entry_line_reads_back`]), and a list's text as the list ([`a_list_reads_back`]).
+//! - Device is answered only with a counted fault. No file but OUT changes.
+//!
+//! # For now
+//!
+//! A part whose crate comes later stands here, and moves unchanged: [`device`], which is the folder, input
+//! and output, and their forms in memory and on a real machine; stored blocks (`device::frame`); the footer
+//! (`footer`); and the writer (`bbt_writer`, `table_parts`). The whole file is made in memory, with one data
+//! block at most, and then added to OUT.
 #![tactic(auto)]
 
 mod bbt_writer;

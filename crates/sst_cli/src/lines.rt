@@ -1,3 +1,6 @@
+//! The lines of an input, which comes in pieces: where a line ends, whatever stands in it.
+//!
+//! Each byte is taken once, searched for a line end once, and moved to the front at most once.
 ghost use Rattle.std.specs.Prelude.{◌≡◌, ℕ, ◌+◌, ◌<◌, ◌≤◌, ◌^◌, List, ◌++◌, [], length, vec_len, take, drop, Option, None, Some, IfOk, OnErr};
 ghost use Rattle.std.specs.Io.KnownBytes.{prepend_known};
 ghost use Rattle.sst_cli.specs.Faults.{Rose};

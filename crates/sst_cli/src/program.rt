@@ -1,3 +1,4 @@
+//! The program: from words to a status. What it prints is put in one piece, once the command has ended.
 ghost use Rattle.std.specs.Prelude.{◌≡◌, ◌≢◌, ◌⊎◌, ℕ, ◌≤◌, ◌++◌, List, [], ◌∷◌, take, codes, map, Option, Some, None, Ok, Err, IfOk, OnOk, OnErr};
 ghost use Rattle.std.specs.String.{string_bytes};
 ghost use Rattle.std.specs.Io.KnownBytes.{append_known};
@@ -116,7 +117,31 @@ fn print_refusal<O: Sink>(alloc: Global, out: &mut O, refusal: Refusal) -> Statu
     }
 }
 
-/// Runs the program on its words, a folder, an input and an output.
+/// Runs the program on its words, which are those after its name, over a folder, an input and an output.
+///
+/// The one command is `write block OUT`, where OUT isn't empty: the input is a list of entry lines, and OUT
+/// is begun, and holds the block-based file of the list at the end. No line after the first that is refused
+/// is looked at.
+///
+/// One line of text is printed, with LF at its end. The status that is answered stands for a number:
+///
+/// ```text
+/// number  status     when                                        printed
+/// 0       Done       the list was written                        wrote N, how many entries
+/// 1       Usage      the words are no command                    usage
+/// 2       Input      a line is refused                           input N REASON, N from 1
+/// 3       File       never, for now
+/// 4       Exhausted  never, for now
+/// 5       Device     the folder, the input or the output failed  a prefix of the text, or nothing
+/// 6       Memory     memory ran out                              a prefix of the text, or nothing
+/// ```
+///
+/// REASON is the first of: `line-long`, more than 40,000,000 bytes before the line's LF; `line`, no entry
+/// line, or without LF; `not-increasing`, not after the entry before; `key-long`, a user key of more than
+/// 65,536 bytes; `value-long`, a value of more than 16,777,216 bytes; `heavy`, a list of more than 2^28,
+/// where each entry counts its key, its value and 64.
+///
+/// The words, the texts and the limits are this project's own.
 pub fn run<F: Folder, I: Intake, O: Sink>(
     alloc: Global,
     words: &[String],

@@ -1,3 +1,7 @@
+//! The lines of an input added to a writer, one by one, up to the first that is refused.
+//!
+//! Of the input no more than one line and the piece around it is held at a time. The line's number is one
+//! more than the count of the writer.
 ghost use Rattle.std.specs.Prelude.{◌≡◌, ◌≢◌, ℕ, ◌<◌, ◌≤◌, ◌^◌, List, [], length, Some, Ok, Err, OnOk};
 ghost use Rattle.sst_key.specs.declared.entries.Entry.{Entry};
 ghost use Rattle.sst_cli.specs.After.{After};

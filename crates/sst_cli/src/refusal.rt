@@ -1,3 +1,4 @@
+//! Why an input is refused, and how that is printed: `input N REASON`. The names are this project's own.
 ghost use Rattle.std.specs.Prelude.{◌≡◌, Some, IfOk};
 ghost use Rattle.std.specs.String.{string_bytes};
 ghost use Rattle.sst_cli.specs.Refusals as names;

@@ -66,7 +66,9 @@ pub fn put_data(
 
 /// The index block: a row for the data block, if there is one, whose separator is the last key.
 ///
-/// RocksDB: `ShortenedIndexBuilder` in table/block_based/index_builder.h.
+/// RocksDB: `ShortenedIndexBuilder` in table/block_based/index_builder.h. It shortens separators; here none
+/// is shortened yet. Of the last data block RocksDB too keeps the whole key by its default,
+/// `kShortenSeparators` in include/rocksdb/table.h, and for now the last block is the only one.
 pub fn index_block(alloc: Global, last: &[u8], place: Option<Handle>) -> Result<Bytes, Memory>
     requires { All (IsRow (Index false false)) (index_rows_by place last.now) }
     ensures { IfOk result (λ block. block ≡ block_of 1 (index_rows_by place last.now)) }

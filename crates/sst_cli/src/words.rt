@@ -1,3 +1,4 @@
+//! The words of a command line. They stand by their place: an OUT of any spelling is a name.
 ghost use Rattle.std.specs.Prelude.{◌≡◌, ◌∷◌, [], map};
 ghost use Rattle.std.specs.Option.{option_map};
 ghost use Rattle.std.specs.String.{string_bytes};
