@@ -21,6 +21,9 @@ use sst_num::{Memory, Refused};
 use std::alloc::Global;
 use std::mem;
 
+#[cfg(test)]
+mod tests;
+
 /// A restart stands at each so many entries of a data block.
 const RESTART_INTERVAL: u32 = 16;
 

@@ -15,8 +15,11 @@
 //! files, never from the output of this program.
 //!
 //! - [`one_block`]: one line written as one block.
+//! - [`lists`]: any list within the limits written as one block, and each refusal by its name.
 #![tactic(auto)]
 
+#[cfg(test)]
+mod lists;
 #[cfg(test)]
 mod one_block;
 #[cfg(test)]

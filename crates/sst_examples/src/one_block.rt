@@ -5,19 +5,14 @@
 //!
 //! RocksDB: `BlockBuilder` in table/block_based/block_builder.cc, `FooterBuilder::Build` in table/format.cc.
 use crate::worked_run::{
-    NONE_FAILS, Ran, holds, other_is_as_it_was, printed, run_on, run_with_stuck_sink,
+    NAME, NONE_FAILS, Ran, WORDS, holds, other_is_as_it_was, printed, refused, run_on,
+    run_with_stuck_sink, written,
 };
 use sst_cli::Status;
 use sst_cli::device::stream::Intake;
 use std::alloc::Global;
 use std::process::Abort;
 use std::test::Fail;
-
-/// The file that is written.
-const NAME: &str = "one.sst";
-
-/// The words that write it.
-const WORDS: [&str; 3] = ["write", "block", NAME];
 
 /// A good input.
 const LINE: &str = "61 1 P 78\n";
@@ -103,11 +98,6 @@ static LAST_NUMBER: [u8; 119] = [
     0x02, 0x00, 0x00, 0x00, 0xf7, 0xcf, 0xf4, 0x85, 0xb7, 0x41, 0xe2, 0x88,
 ];
 
-/// Runs the command on an input, with no call outside that fails.
-fn written(alloc: Global, input: &[u8]) -> Result<Ran, Fail> {
-    run_on(alloc, &WORDS, input, NONE_FAILS)
-}
-
 #[test]
 fn the_file_of_a_line(rt: HostRuntime) -> Result<(), Fail> {
     for (input, file) in [
@@ -144,43 +134,36 @@ fn the_kinds(rt: HostRuntime) -> Result<(), Fail> {
 }
 
 #[test]
-fn refused_inputs(rt: HostRuntime) -> Result<(), Fail> {
-    for (input, text) in [
-        // Too few lines, and too many: any byte after the first line.
-        ("", "input end empty\n"),
-        ("61 1 P 78\n61 2 P 78\n", "input 2 many\n"),
-        ("61 1 P 78\n\n", "input 2 many\n"),
-        ("61 1 P 78\n6", "input 2 many\n"),
+fn lines_that_are_no_entry_lines(rt: HostRuntime) -> Result<(), Fail> {
+    for input in [
         // No whole line.
-        ("61 1 P 78", "input 1 line\n"),
-        ("61 1 P 7\n61 1 P 78\n", "input 1 line\n"),
-        ("\n", "input 1 line\n"),
-        ("61 1 P 78\r\n", "input 1 line\n"),
+        "61 1 P 78",
+        "61 1 P 7\n61 1 P 78\n",
+        "\n",
+        "61 1 P 78\r\n",
         // The blanks between the fields.
-        ("61  1 P 78\n", "input 1 line\n"),
-        ("61\t1 P 78\n", "input 1 line\n"),
-        (" 61 1 P 78\n", "input 1 line\n"),
-        ("61 1 P 78 \n", "input 1 line\n"),
-        ("61 1 P\n", "input 1 line\n"),
-        ("61 1 P \n", "input 1 line\n"),
+        "61  1 P 78\n",
+        "61\t1 P 78\n",
+        " 61 1 P 78\n",
+        "61 1 P 78 \n",
+        "61 1 P\n",
+        "61 1 P \n",
         // Keys and values.
-        ("61 1 P 7\n", "input 1 line\n"),
-        ("6g 1 P 78\n", "input 1 line\n"),
-        ("-- 1 P 78\n", "input 1 line\n"),
+        "61 1 P 7\n",
+        "6g 1 P 78\n",
+        "-- 1 P 78\n",
         // Sequence numbers.
-        ("61 72057594037927936 P 78\n", "input 1 line\n"),
-        ("61 18446744073709551617 P 78\n", "input 1 line\n"),
-        ("61 01 P 78\n", "input 1 line\n"),
-        ("61 +1 P 78\n", "input 1 line\n"),
+        "61 72057594037927936 P 78\n",
+        "61 18446744073709551617 P 78\n",
+        "61 01 P 78\n",
+        "61 +1 P 78\n",
         // Kinds.
-        ("61 1 p 78\n", "input 1 line\n"),
-        ("61 1 X 78\n", "input 1 line\n"),
-        ("61 1 PP 78\n", "input 1 line\n"),
+        "61 1 p 78\n",
+        "61 1 X 78\n",
+        "61 1 PP 78\n",
     ] {
         let ran = written(rt.alloc(), input.as_bytes())?;
-        assert_eq!(rt; ran.status, Status::Input, "on {input}");
-        assert!(rt; printed(&ran, text), "on {input}");
-        assert!(rt; other_is_as_it_was(&ran), "on {input}");
+        assert!(rt; refused(&ran, "input 1 line\n"), "on {input}");
     }
     Ok(())
 }
@@ -278,21 +261,26 @@ fn an_output_that_takes_nothing(rt: HostRuntime) -> Result<(), Fail> {
 
 #[test]
 fn long_lines(rt: HostRuntime) -> Result<(), Fail> {
-    for length in [40_000_000, 40_000_001] {
+    for (length, refusal) in [
+        (40_000_000, "input 1 line\n"),
+        (40_000_001, "input 1 line-long\n"),
+    ] {
         let mut text = vec![in rt.alloc(); b'6'; length]?;
         let ran = written(rt.alloc(), &text)?;
-        assert_eq!(rt; ran.status, Status::Input, "of {length} bytes");
-        assert!(rt; printed(&ran, "input 1 line\n"), "of {length} bytes");
+        assert!(rt; refused(&ran, refusal), "of {length} bytes");
         text.push(b'\n')?;
         let ran = written(rt.alloc(), &text)?;
-        assert_eq!(rt; ran.status, Status::Input, "of {length} bytes");
-        assert!(rt; printed(&ran, "input 1 line\n"), "of {length} bytes");
+        assert!(rt; refused(&ran, refusal), "of {length} bytes and a line end");
     }
     Ok(())
 }
 
 /// An entry line whose key and value have so many hex digits.
-fn line_of(alloc: Global, key_digits: usize, value_digits: usize) -> Result<Vec<u8>, Fail> {
+pub(crate) fn line_of(
+    alloc: Global,
+    key_digits: usize,
+    value_digits: usize,
+) -> Result<Vec<u8>, Fail> {
     let mut line = vec![in alloc; b'6'; key_digits]?;
     let value = vec![in alloc; b'7'; value_digits]?;
     line.extend_from_slice(b" 1 P ")?;
@@ -319,14 +307,15 @@ fn keys_and_values_at_their_limits(rt: HostRuntime) -> Result<(), Fail> {
             "{key_digits} {value_digits}"
         );
     }
-    for (key_digits, value_digits) in [(131_074, 2), (2, 33_554_434)] {
+    for (key_digits, value_digits, refusal) in [
+        (131_074, 2, "input 1 key-long\n"),
+        (2, 33_554_434, "input 1 value-long\n"),
+        // The first of the reasons.
+        (131_074, 33_554_434, "input 1 key-long\n"),
+    ] {
         let line = line_of(rt.alloc(), key_digits, value_digits)?;
         let ran = written(rt.alloc(), &line)?;
-        assert_eq!(rt; ran.status, Status::Input, "{key_digits} {value_digits}");
-        assert!(rt;
-            printed(&ran, "input 1 line\n"),
-            "{key_digits} {value_digits}"
-        );
+        assert!(rt; refused(&ran, refusal), "{key_digits} {value_digits}");
     }
     Ok(())
 }

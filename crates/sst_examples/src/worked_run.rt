@@ -4,6 +4,12 @@ use sst_cli::{Status, run};
 use std::alloc::Global;
 use std::test::Fail;
 
+/// The file that is written.
+pub(crate) const NAME: &str = "one.sst";
+
+/// The words that write it.
+pub(crate) const WORDS: [&str; 3] = ["write", "block", NAME];
+
 /// The file that stands in the folder before each run.
 const OTHER: &str = "other.sst";
 
@@ -56,6 +62,11 @@ pub(crate) fn run_on(
     run_over(alloc, words, folder, intake, sink)
 }
 
+/// Runs the command that writes a file on an input, with no call outside that fails.
+pub(crate) fn written(alloc: Global, input: &[u8]) -> Result<Ran, Fail> {
+    run_on(alloc, &WORDS, input, NONE_FAILS)
+}
+
 /// Runs the program over an output whose first call takes nothing.
 pub(crate) fn run_with_stuck_sink(
     alloc: Global,
@@ -98,6 +109,17 @@ pub(crate) fn holds(ran: &Ran, name: &str, bytes: &[u8]) -> bool {
 /// Whether this was printed, and nothing else.
 pub(crate) fn printed(ran: &Ran, text: &str) -> bool {
     ran.sink.bytes() == text.as_bytes()
+}
+
+/// Whether the input was refused with this text, and the other file is as it was.
+pub(crate) fn refused(ran: &Ran, text: &str) -> bool {
+    if ran.status != Status::Input {
+        return false;
+    }
+    if !printed(ran, text) {
+        return false;
+    }
+    other_is_as_it_was(ran)
 }
 
 /// Whether the other file is as it was.
