@@ -143,9 +143,9 @@ static END_OF_33: [&str; 9] = [
 ];
 
 /// Appends the bytes that hex digits spell.
-fn put_hex(bytes: &mut Vec<u8>, digits: &[&str]) -> Result<(), Fail> {
+fn put_hex(alloc: Global, bytes: &mut Vec<u8>, digits: &[&str]) -> Result<(), Fail> {
     for piece in digits {
-        let piece = hex::decode(bytes.alloc(), piece.as_bytes())?;
+        let piece = hex::decode(alloc, piece.as_bytes())?;
         bytes.extend_from_slice(&piece)?;
     }
     Ok(())
@@ -163,7 +163,7 @@ fn assert_wrote(rt: &impl Abort, ran: &Ran, file: &[u8], text: &str) {
 fn the_empty_list(rt: HostRuntime) -> Result<(), Fail> {
     let ran = written(rt.alloc(), b"")?;
     let mut file = Vec::new(rt.alloc());
-    put_hex(&mut file, &EMPTY)?;
+    put_hex(rt.alloc(), &mut file, &EMPTY)?;
     assert_wrote(&rt, &ran, &file, "wrote 0\n");
     Ok(())
 }
@@ -172,7 +172,7 @@ fn the_empty_list(rt: HostRuntime) -> Result<(), Fail> {
 fn three_versions_of_a_key(rt: HostRuntime) -> Result<(), Fail> {
     let ran = written(rt.alloc(), b"6b 9 P 31\n6b 5 D 32\n6b 2 M 33\n")?;
     let mut file = Vec::new(rt.alloc());
-    put_hex(&mut file, &THREE_VERSIONS)?;
+    put_hex(rt.alloc(), &mut file, &THREE_VERSIONS)?;
     assert_wrote(&rt, &ran, &file, "wrote 3\n");
     Ok(())
 }
@@ -192,8 +192,8 @@ fn numbered_lines(alloc: Global, count: u8) -> Result<Vec<u8>, Fail> {
 fn a_second_restart(rt: HostRuntime) -> Result<(), Fail> {
     let ran = written(rt.alloc(), &numbered_lines(rt.alloc(), 17)?)?;
     let mut file = Vec::new(rt.alloc());
-    put_hex(&mut file, &ROWS)?;
-    put_hex(&mut file, &END_OF_17)?;
+    put_hex(rt.alloc(), &mut file, &ROWS)?;
+    put_hex(rt.alloc(), &mut file, &END_OF_17)?;
     assert_wrote(&rt, &ran, &file, "wrote 17\n");
     Ok(())
 }
@@ -202,9 +202,9 @@ fn a_second_restart(rt: HostRuntime) -> Result<(), Fail> {
 fn a_third_restart(rt: HostRuntime) -> Result<(), Fail> {
     let ran = written(rt.alloc(), &numbered_lines(rt.alloc(), 33)?)?;
     let mut file = Vec::new(rt.alloc());
-    put_hex(&mut file, &ROWS)?;
-    put_hex(&mut file, &MORE_ROWS)?;
-    put_hex(&mut file, &END_OF_33)?;
+    put_hex(rt.alloc(), &mut file, &ROWS)?;
+    put_hex(rt.alloc(), &mut file, &MORE_ROWS)?;
+    put_hex(rt.alloc(), &mut file, &END_OF_33)?;
     assert_wrote(&rt, &ran, &file, "wrote 33\n");
     Ok(())
 }

@@ -310,8 +310,6 @@ fn keys_and_values_at_their_limits(rt: HostRuntime) -> Result<(), Fail> {
     for (key_digits, value_digits, refusal) in [
         (131_074, 2, "input 1 key-long\n"),
         (2, 33_554_434, "input 1 value-long\n"),
-        // The first of the reasons.
-        (131_074, 33_554_434, "input 1 key-long\n"),
     ] {
         let line = line_of(rt.alloc(), key_digits, value_digits)?;
         let ran = written(rt.alloc(), &line)?;
