@@ -59,11 +59,3 @@ cut-front stop (x ∷ front) rest none =
     let other = ne_eqb x stop (All-head (λ c. c ≢ stop) x front none) in
     let more = cut-front stop front rest (All-tail (λ c. c ≢ stop) x front none) in
     rw (other, more) refl
-
--- no such byte, no cut there
-pub cut-none : (stop : ℕ) (text : List ℕ) → Avoids stop text → cut stop text ≡ None
-cut-none stop [] none = refl
-cut-none stop (b ∷ text) none =
-    let other = ne_eqb b stop (All-head (λ c. c ≢ stop) b text none) in
-    let more = cut-none stop text (All-tail (λ c. c ≢ stop) b text none) in
-    rw (other, more) refl

@@ -1,7 +1,6 @@
 -- The text of a list reads back as the list.
-use Rattle.std.proofs.Common.{◌≡◌, ◌≢◌, inl, inr, ℕ, ◌+◌, ◌*◌, ◌^◌, ◌<◌, ◌≤◌, ◌==◌, true, false, cond, List, [], ◌∷◌, ◌++◌, length, All, Option, Some, None, Ok, refl, sym, ap, ◌∙◌, subst, append_assoc, length-append, arith}
+use Rattle.std.proofs.Common.{◌≡◌, ◌≢◌, inl, inr, ℕ, ◌+◌, ◌*◌, ◌^◌, ◌<◌, ◌≤◌, true, List, [], ◌∷◌, ◌++◌, length, All, Some, None, Ok, refl, sym, ap, ◌∙◌, subst, append_assoc, length-append, arith}
 use Rattle.std.specs.Fmt.{decimal}
-use Rattle.std.specs.Option.{option_map}
 use Rattle.std.specs.Ordering.{is_lt}
 use Rattle.std.proofs.lemmas.Bool.{le-ltb}
 use Rattle.std.proofs.lemmas.Fmt.{length-decimal-le}
@@ -15,10 +14,11 @@ use Rattle.sst_key.specs.Entry.{IsOrdered, weight, entry_weight}
 use Rattle.sst_cli.specs.Texts.{cut, entry_of_line}
 use Rattle.sst_cli.specs.EntryText.{hex_text, kind_letter, entry_line, lines_text, AreBytes}
 use Rattle.sst_cli.specs.Reasons.{is_after, reason}
-use Rattle.sst_cli.specs.Reading.{onto_first, pieces_of, by_reason, by_entry, read_line, read_pieces, read_from, read_input}
+use Rattle.sst_cli.specs.Reading.{by_reason, by_entry, read_line, read_from, read_input}
 use Rattle.sst_cli.specs.Written.{IsInLimits, Fits}
-use Rattle.sst_cli.proofs.FieldBytes.{Avoids, IsStop, hex_text-avoids, decimal-avoids, letter_text-avoids, cut-none}
+use Rattle.sst_cli.proofs.FieldBytes.{Avoids, IsStop, hex_text-avoids, decimal-avoids, letter_text-avoids, cut-front}
 use Rattle.sst_cli.proofs.LineRoundTrip.{entry_of_line-entry_line}
+use Rattle.sst_cli.proofs.ReadFrom.{read_from-entry}
 use Rattle.sst_cli.proofs.Rows.{ComesAfter, weight-append, IsOrdered-last}
 
 -- ---- the line of an entry has no line end
@@ -38,8 +38,11 @@ line-avoids e user value seq =
     (blank-avoids (decimal e.seq) last (decimal-avoids 10 e.seq stop fits)
     (blank-avoids letter (hex_text e.value) (letter_text-avoids 10 e.kind stop) (hex_text-avoids 10 e.value stop value)))
 
-pub entry_line-no_end : (e : Entry) → IsBytes e.user → IsBytes e.value → e.seq < 2 ^ 56 → cut 10 (entry_line e) ≡ None
-entry_line-no_end e user value seq = cut-none 10 (entry_line e) (line-avoids e user value seq)
+-- the text after a line of an entry begins after its line end
+pub entry_line-cut : (e : Entry) (text : List ℕ) → IsBytes e.user → IsBytes e.value → e.seq < 2 ^ 56
+    → cut 10 ((entry_line e ++ 10 ∷ []) ++ text) ≡ Some (entry_line e, text)
+entry_line-cut e text user value seq =
+    ap (cut 10) (append_assoc (entry_line e) (10 ∷ []) text) ∙ cut-front 10 (entry_line e) text (line-avoids e user value seq)
 
 -- ---- the line of an entry is short
 
@@ -96,39 +99,6 @@ Fits-front front rest fits = record {
   light = omega (arith, sum_by-append entry_weight front rest, fits.light);
 }
 
--- ---- the pieces of a text
-
--- one more byte before a cut
-abbrev longer : ℕ → List ℕ × List ℕ → List ℕ × List ℕ
-longer b parts = (b ∷ parts.0, parts.1)
-
-none-from_longer : (b : ℕ) (o : Option (List ℕ × List ℕ)) → option_map (longer b) o ≡ None → o ≡ None
-none-from_longer b None e = refl
-none-from_longer b (Some parts) e = absurd (cc)
-
--- a line without a line end, and a line end after it, are the first piece
-pub pieces_of-line : (line text : List ℕ) → cut 10 line ≡ None → pieces_of (line ++ (10 ∷ text)) ≡ line ∷ pieces_of text
-pieces_of-line [] text none = refl
-pieces_of-line (b ∷ line) text none =
-    let more = pieces_of (line ++ (10 ∷ text)) in
-    elim (b == 10) as (λ t. ◌≡◌ {A = Option (List ℕ × List ℕ)} (cond t (Some ([], line)) (option_map (longer b) (cut 10 line))) None → cond t ([] ∷ more) (onto_first b more) ≡ (b ∷ line) ∷ pieces_of text) [
-      | true ↦ λ e. absurd (cc)
-      | false ↦ λ e. ap (onto_first b) (pieces_of-line line text (none-from_longer b (cut 10 line) e))
-    ] none
-
-onto_first-some : (b : ℕ) (pieces : List (List ℕ)) → 0 < length (onto_first b pieces)
-onto_first-some b [] = omega arith
-onto_first-some b (piece ∷ pieces) = omega arith
-
--- a text has one piece at least
-pieces_of-some : (text : List ℕ) → 0 < length (pieces_of text)
-pieces_of-some [] = omega arith
-pieces_of-some (b ∷ text) =
-    elim (b == 10) as (λ t. 0 < length (cond t ([] ∷ pieces_of text) (onto_first b (pieces_of text)))) [
-      | true ↦ omega arith
-      | false ↦ onto_first-some b (pieces_of text)
-    ]
-
 -- ---- reading
 
 -- a line that is short, is the line of an entry, and has no reason to be refused
@@ -142,21 +112,6 @@ read_line-entry_line : (entries : List Entry) (e : Entry) → Fits (entries ++ e
 read_line-entry_line entries e fits user value =
     let limits = limits-last entries e fits in
     read_line-entry entries (entry_line e) e (length-entry_line e limits) (entry_of_line-entry_line e user value limits.seq) (reason-none entries e fits)
-
--- a line that is an entry, before other pieces
-read_pieces-line : (number : ℕ) (entries : List Entry) (line : List ℕ) (pieces : List (List ℕ)) (e : Entry) → 0 < length pieces → read_line entries line ≡ Ok e
-    → read_pieces number entries (line ∷ pieces) ≡ read_pieces (number + 1) (entries ++ e ∷ []) pieces
-read_pieces-line number entries line [] e some reads = absurd (omega arith)
-read_pieces-line number entries line (next ∷ rest) e some reads = rw reads refl
-
--- a line that is an entry, before other text
-read_from-line : (number : ℕ) (entries : List Entry) (line text : List ℕ) (e : Entry) → cut 10 line ≡ None → read_line entries line ≡ Ok e
-    → read_from number entries ((line ++ 10 ∷ []) ++ text) ≡ read_from (number + 1) (entries ++ e ∷ []) text
-unfolding read_from
-read_from-line number entries line text e none reads =
-    ap (λ (t : List ℕ). read_pieces number entries (pieces_of t)) (append_assoc line (10 ∷ []) text)
-    ∙ ap (read_pieces number entries) (pieces_of-line line text none)
-    ∙ read_pieces-line number entries line (pieces_of text) e (pieces_of-some text) reads
 
 read_from-nil : (number : ℕ) (entries : List Entry) → read_from number entries [] ≡ Ok entries
 unfolding read_from
@@ -172,7 +127,8 @@ read_from-lines number before (e ∷ rest) fits are =
     let whole : Fits ((before ++ e ∷ []) ++ rest) = subst Fits (sym same) fits in
     let front = Fits-front (before ++ e ∷ []) rest whole in
     let limits = limits-last before e front in
-    read_from-line number before (entry_line e) (lines_text rest) e (entry_line-no_end e bytes.0 bytes.1 limits.seq) (read_line-entry_line before e front bytes.0 bytes.1)
+    read_from-entry number before (lines_text (e ∷ rest)) (entry_line e) (lines_text rest) e
+    (entry_line-cut e (lines_text rest) bytes.0 bytes.1 limits.seq) (read_line-entry_line before e front bytes.0 bytes.1)
     ∙ read_from-lines (number + 1) (before ++ e ∷ []) rest whole more
     ∙ ap Ok same
 

@@ -6,6 +6,7 @@ use Rattle.std.proofs.lemmas.List.{append-nil}
 use Rattle.sst_key.specs.declared.entries.Entry.{Entry}
 use Rattle.sst_cli.specs.declared.refusal.Reason.{Reason}
 use Rattle.sst_cli.specs.declared.refusal.Reason.TheVariants as why
+use Rattle.sst_cli.specs.declared.refusal.Refusal.{Refusal}
 use Rattle.sst_cli.specs.Texts.{cut}
 use Rattle.sst_cli.specs.Lines.{BeginsLong}
 use Rattle.sst_cli.specs.Reading.{result_match, onto_first, pieces_of, read_line, refused_at, read_last, read_pieces, read_from}
@@ -57,26 +58,27 @@ pieces_of-line text line after found =
     let parts = cut-parts 10 text line after found in
     ap pieces_of parts.0 ∙ pieces_after line (10 ∷ after) [] (pieces_of after) parts.1 refl ∙ ap (λ (l : List ℕ). l ∷ pieces_of after) (append-nil line)
 
+-- the next line ends before the text does, and is read by itself
+read_from-step : (number : ℕ) (entries : List Entry) (text line after : List ℕ) → cut 10 text ≡ Some (line, after)
+    → read_from number entries text
+    ≡ result_match (read_line entries line) (λ e. read_from (number + 1) (entries ++ e ∷ []) after) (λ w. Err (refused_at number w))
+unfolding read_from
+read_from-step number entries text line after found =
+    let rest = pieces_some after in
+    let pieces = pieces_of-line text line after found ∙ ap (λ (ps : List (List ℕ)). line ∷ ps) rest.1.1 in
+    let more : List (List ℕ) → Result (List Entry) Refusal =
+    λ ps. result_match (read_line entries line) (λ e. read_pieces (number + 1) (entries ++ e ∷ []) ps) (λ w. Err (refused_at number w)) in
+    ap (read_pieces number entries) pieces ∙ ap more (sym rest.1.1)
+
 -- the next line is an entry
 pub read_from-entry : (number : ℕ) (entries : List Entry) (text line after : List ℕ) (e : Entry) → cut 10 text ≡ Some (line, after)
     → read_line entries line ≡ Ok e → read_from number entries text ≡ read_from (number + 1) (entries ++ e ∷ []) after
-unfolding read_from
-read_from-entry number entries text line after e found reads =
-    let rest = pieces_some after in
-    let pieces = pieces_of-line text line after found ∙ ap (λ (ps : List (List ℕ)). line ∷ ps) rest.1.1 in
-    ap (read_pieces number entries) pieces
-    ∙ ap (λ (r : Result Entry Reason). result_match r (λ e. read_pieces (number + 1) (entries ++ e ∷ []) (rest.0 ∷ rest.1.0)) (λ w. Err (refused_at number w))) reads
-    ∙ ap (read_pieces (number + 1) (entries ++ e ∷ [])) (sym rest.1.1)
+read_from-entry number entries text line after e found reads = read_from-step number entries text line after found ∙ rw reads refl
 
 -- the next line is refused
 pub read_from-refused : (number : ℕ) (entries : List Entry) (text line after : List ℕ) (w : Reason) → cut 10 text ≡ Some (line, after)
     → read_line entries line ≡ Err w → read_from number entries text ≡ Err (refused_at number w)
-unfolding read_from
-read_from-refused number entries text line after w found reads =
-    let rest = pieces_some after in
-    let pieces = pieces_of-line text line after found ∙ ap (λ (ps : List (List ℕ)). line ∷ ps) rest.1.1 in
-    ap (read_pieces number entries) pieces
-    ∙ ap (λ (r : Result Entry Reason). result_match r (λ e. read_pieces (number + 1) (entries ++ e ∷ []) (rest.0 ∷ rest.1.0)) (λ w. Err (refused_at number w))) reads
+read_from-refused number entries text line after w found reads = read_from-step number entries text line after found ∙ rw reads refl
 
 -- a first piece past the limit of a line, whatever follows
 read_pieces-long : (number : ℕ) (entries : List Entry) (first : List ℕ) (others : List (List ℕ)) → 40000000 < length first
