@@ -6,7 +6,7 @@
 //! RocksDB: `BlockBuilder` in table/block_based/block_builder.cc (a restart at each 16 rows), `InternalKeyComparator`
 //! in db/dbformat.h.
 use crate::one_block::line_of;
-use crate::worked_run::{NAME, Ran, holds, other_is_as_it_was, printed, refused, written};
+use crate::worked_run::{NAME, Ran, holds, other_is_as_it_was, printed, put_hex, refused, written};
 use sst_cli::Status;
 use std::alloc::Global;
 use std::process::Abort;
@@ -141,15 +141,6 @@ static END_OF_33: [&str; 9] = [
     // The version, 2, and the magic number.
     "02000000f7cff485b741e288",
 ];
-
-/// Appends the bytes that hex digits spell.
-fn put_hex(alloc: Global, bytes: &mut Vec<u8>, digits: &[&str]) -> Result<(), Fail> {
-    for piece in digits {
-        let piece = hex::decode(alloc, piece.as_bytes())?;
-        bytes.extend_from_slice(&piece)?;
-    }
-    Ok(())
-}
 
 /// Asserts that the command wrote this file, and printed this.
 fn assert_wrote(rt: &impl Abort, ran: &Ran, file: &[u8], text: &str) {

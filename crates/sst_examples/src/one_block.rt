@@ -5,7 +5,7 @@
 //!
 //! RocksDB: `BlockBuilder` in table/block_based/block_builder.cc, `FooterBuilder::Build` in table/format.cc.
 use crate::worked_run::{
-    NAME, NONE_FAILS, Ran, WORDS, holds, other_is_as_it_was, printed, refused, run_on,
+    NAME, NONE_FAILS, Ran, WORDS, holds, other_is_as_it_was, printed, put_hex, refused, run_on,
     run_with_stuck_sink, written,
 };
 use sst_cli::Status;
@@ -20,95 +20,89 @@ const LINE: &str = "61 1 P 78\n";
 /// What is printed when it was written.
 const DONE: &str = "wrote 1\n";
 
-/// The file of the line `61 1 P 78`.
-static ONE_ENTRY: [u8; 119] = [
-    // The data block, at 0: one row and one restart point.
-    0x00, 0x09, 0x01, 0x61, 0x01, 0x01, 0x00, 0x00, 0x00, 0x00, 0x00, 0x00, 0x78, 0x00, 0x00, 0x00,
-    0x00, 0x01, 0x00, 0x00, 0x00,
-    // Its trailer.
-    0x00, 0x84, 0xdd, 0x88, 0x74,
-    // The index block, at 26: one row, and the handle of the data block.
-    0x00, 0x09, 0x02, 0x61, 0x01, 0x01, 0x00, 0x00, 0x00, 0x00, 0x00, 0x00, 0x00, 0x15, 0x00, 0x00,
-    0x00, 0x00, 0x01, 0x00, 0x00, 0x00,
-    // Its trailer.
-    0x00, 0x36, 0x49, 0x25, 0xbf,
-    // The metaindex block, at 53: no row.
-    0x00, 0x00, 0x00, 0x00, 0x01, 0x00, 0x00, 0x00,
-    // Its trailer.
-    0x00, 0xc0, 0xf2, 0xa1, 0xb0,
-    // The footer: the kind of checksum, and the handles of the metaindex and the index block.
-    0x01, 0x35, 0x08, 0x1a, 0x16,
-    // Zeros.
-    0x00, 0x00, 0x00, 0x00, 0x00, 0x00, 0x00, 0x00, 0x00, 0x00, 0x00, 0x00, 0x00, 0x00, 0x00, 0x00,
-    0x00, 0x00, 0x00, 0x00, 0x00, 0x00, 0x00, 0x00, 0x00, 0x00, 0x00, 0x00, 0x00, 0x00, 0x00, 0x00,
-    0x00, 0x00, 0x00, 0x00,
-    // The version, 2, and the magic number.
-    0x02, 0x00, 0x00, 0x00, 0xf7, 0xcf, 0xf4, 0x85, 0xb7, 0x41, 0xe2, 0x88,
-];
+/// What differs between the files of one entry, in hex digits.
+struct OneEntry {
+    /// The row of the data block, which begins at 0.
+    row: &'static str,
+    /// The checksum of the data block.
+    checksum: &'static str,
+    /// The row of the index block: the entry's key, and the handle of the data block.
+    index_row: &'static str,
+    /// The checksum of the index block.
+    index_checksum: &'static str,
+    /// The handles of the metaindex and the index block.
+    handles: &'static str,
+}
 
-/// The file of the line `- 1 P AbCd`.
-static EMPTY_KEY: [u8; 118] = [
-    // The data block, at 0: one row and one restart point.
-    0x00, 0x08, 0x02, 0x01, 0x01, 0x00, 0x00, 0x00, 0x00, 0x00, 0x00, 0xab, 0xcd, 0x00, 0x00, 0x00,
-    0x00, 0x01, 0x00, 0x00, 0x00,
-    // Its trailer.
-    0x00, 0x2c, 0x29, 0x19, 0xda,
-    // The index block, at 26: one row, and the handle of the data block.
-    0x00, 0x08, 0x02, 0x01, 0x01, 0x00, 0x00, 0x00, 0x00, 0x00, 0x00, 0x00, 0x15, 0x00, 0x00, 0x00,
-    0x00, 0x01, 0x00, 0x00, 0x00,
-    // Its trailer.
-    0x00, 0xab, 0xa9, 0x56, 0xc1,
-    // The metaindex block, at 52: no row.
-    0x00, 0x00, 0x00, 0x00, 0x01, 0x00, 0x00, 0x00,
-    // Its trailer.
-    0x00, 0xc0, 0xf2, 0xa1, 0xb0,
-    // The footer: the kind of checksum, and the handles of the metaindex and the index block.
-    0x01, 0x34, 0x08, 0x1a, 0x15,
-    // Zeros.
-    0x00, 0x00, 0x00, 0x00, 0x00, 0x00, 0x00, 0x00, 0x00, 0x00, 0x00, 0x00, 0x00, 0x00, 0x00, 0x00,
-    0x00, 0x00, 0x00, 0x00, 0x00, 0x00, 0x00, 0x00, 0x00, 0x00, 0x00, 0x00, 0x00, 0x00, 0x00, 0x00,
-    0x00, 0x00, 0x00, 0x00,
-    // The version, 2, and the magic number.
-    0x02, 0x00, 0x00, 0x00, 0xf7, 0xcf, 0xf4, 0x85, 0xb7, 0x41, 0xe2, 0x88,
-];
+/// The file of the line `61 1 P 78`: the index block stands at 26, and the metaindex block at 53.
+static ONE_ENTRY: OneEntry = OneEntry {
+    row: "00090161010100000000000078",
+    checksum: "84dd8874",
+    index_row: "0009026101010000000000000015",
+    index_checksum: "364925bf",
+    handles: "35081a16",
+};
 
-/// The file of the line `61 72057594037927935 P 78`, with the last sequence number.
-static LAST_NUMBER: [u8; 119] = [
-    // The data block, at 0: one row and one restart point.
-    0x00, 0x09, 0x01, 0x61, 0x01, 0xff, 0xff, 0xff, 0xff, 0xff, 0xff, 0xff, 0x78, 0x00, 0x00, 0x00,
-    0x00, 0x01, 0x00, 0x00, 0x00,
-    // Its trailer.
-    0x00, 0xe6, 0x3d, 0xcb, 0xad,
-    // The index block, at 26: one row, and the handle of the data block.
-    0x00, 0x09, 0x02, 0x61, 0x01, 0xff, 0xff, 0xff, 0xff, 0xff, 0xff, 0xff, 0x00, 0x15, 0x00, 0x00,
-    0x00, 0x00, 0x01, 0x00, 0x00, 0x00,
-    // Its trailer.
-    0x00, 0x03, 0x41, 0x6a, 0xbd,
-    // The metaindex block, at 53: no row.
-    0x00, 0x00, 0x00, 0x00, 0x01, 0x00, 0x00, 0x00,
-    // Its trailer.
-    0x00, 0xc0, 0xf2, 0xa1, 0xb0,
-    // The footer: the kind of checksum, and the handles of the metaindex and the index block.
-    0x01, 0x35, 0x08, 0x1a, 0x16,
-    // Zeros.
-    0x00, 0x00, 0x00, 0x00, 0x00, 0x00, 0x00, 0x00, 0x00, 0x00, 0x00, 0x00, 0x00, 0x00, 0x00, 0x00,
-    0x00, 0x00, 0x00, 0x00, 0x00, 0x00, 0x00, 0x00, 0x00, 0x00, 0x00, 0x00, 0x00, 0x00, 0x00, 0x00,
-    0x00, 0x00, 0x00, 0x00,
-    // The version, 2, and the magic number.
-    0x02, 0x00, 0x00, 0x00, 0xf7, 0xcf, 0xf4, 0x85, 0xb7, 0x41, 0xe2, 0x88,
-];
+/// The file of the line `- 1 P AbCd`: the index block stands at 26, and the metaindex block at 52.
+static EMPTY_KEY: OneEntry = OneEntry {
+    row: "0008020101000000000000abcd",
+    checksum: "2c2919da",
+    index_row: "00080201010000000000000015",
+    index_checksum: "aba956c1",
+    handles: "34081a15",
+};
+
+/// The file of the line `61 72057594037927935 P 78`, with the last sequence number: the index block stands at 26,
+/// and the metaindex block at 53.
+static LAST_NUMBER: OneEntry = OneEntry {
+    row: "0009016101ffffffffffffff78",
+    checksum: "e63dcbad",
+    index_row: "0009026101ffffffffffffff0015",
+    index_checksum: "03416abd",
+    handles: "35081a16",
+};
+
+/// The end of a block whose one restart point is 0.
+const ONE_RESTART: &str = "0000000001000000";
+
+/// The type byte of a stored block: no compression.
+const NO_COMPRESSION: &str = "00";
+
+/// The file of one entry.
+fn file_of(alloc: Global, parts: &OneEntry) -> Result<Vec<u8>, Fail> {
+    let mut file = Vec::new(alloc);
+    let data_block = [parts.row, ONE_RESTART, NO_COMPRESSION, parts.checksum];
+    put_hex(alloc, &mut file, &data_block)?;
+    let index_block = [
+        parts.index_row,
+        ONE_RESTART,
+        NO_COMPRESSION,
+        parts.index_checksum,
+    ];
+    put_hex(alloc, &mut file, &index_block)?;
+    let metaindex_block = [ONE_RESTART, NO_COMPRESSION, "c0f2a1b0"];
+    put_hex(alloc, &mut file, &metaindex_block)?;
+    // The footer: the kind of checksum, the handles, 36 zeros, the version, and the magic number.
+    let footer = ["01", parts.handles, ZEROS, "02000000", "f7cff485b741e288"];
+    put_hex(alloc, &mut file, &footer)?;
+    Ok(file)
+}
+
+/// The zeros that fill the front of a footer up to 41 bytes, after handles of four bytes.
+const ZEROS: &str = "000000000000000000000000000000000000000000000000000000000000000000000000";
 
 #[test]
 fn the_file_of_a_line(rt: HostRuntime) -> Result<(), Fail> {
-    for (input, file) in [
-        (LINE, ONE_ENTRY.as_slice()),
-        ("- 1 P AbCd\n", EMPTY_KEY.as_slice()),
-        ("61 72057594037927935 P 78\n", LAST_NUMBER.as_slice()),
+    for (input, parts) in [
+        (LINE, &ONE_ENTRY),
+        ("- 1 P AbCd\n", &EMPTY_KEY),
+        ("61 72057594037927935 P 78\n", &LAST_NUMBER),
     ] {
+        let file = file_of(rt.alloc(), parts)?;
         let ran = written(rt.alloc(), input.as_bytes())?;
         assert_eq!(rt; ran.status, Status::Done, "on {input}");
         assert!(rt; printed(&ran, DONE), "on {input}");
-        assert!(rt; holds(&ran, NAME, file), "on {input}");
+        assert!(rt; holds(&ran, NAME, &file), "on {input}");
         assert!(rt; other_is_as_it_was(&ran), "on {input}");
     }
     Ok(())
@@ -203,11 +197,12 @@ fn still_to_come(ran: &mut Ran, text: &str) -> bool {
     }
 }
 
-/// Asserts that a run in which one call was to fail ended as it has to, and answers whether one did.
-fn failed(rt: &impl Abort, ran: &Ran) -> bool {
+/// Asserts that a run in which one call was to fail ended as it has to, and answers whether one did. The file that
+/// is written where none did is told.
+fn failed(rt: &impl Abort, ran: &Ran, file: &[u8]) -> bool {
     assert!(rt; other_is_as_it_was(ran));
     if ran.status == Status::Done {
-        assert!(rt; holds(ran, NAME, &ONE_ENTRY));
+        assert!(rt; holds(ran, NAME, file));
         assert!(rt; printed(ran, DONE));
         return false;
     }
@@ -238,14 +233,15 @@ fn run_failing(alloc: Global, object: Object, number: u64) -> Result<Ran, Fail> 
 
 #[test]
 fn each_failing_call(rt: HostRuntime) -> Result<(), Fail> {
+    let file = file_of(rt.alloc(), &ONE_ENTRY)?;
     // The folder begins the file and adds to it; the input gives its line and its end; the output is put one text.
     for (object, calls) in [(Object::Folder, 2), (Object::Intake, 2), (Object::Sink, 1)] {
         for number in 1..=calls {
             let ran = run_failing(rt.alloc(), object, number)?;
-            assert!(rt; failed(&rt, &ran), "{object:?} {number}");
+            assert!(rt; failed(&rt, &ran, &file), "{object:?} {number}");
         }
         let ran = run_failing(rt.alloc(), object, calls + 1)?;
-        assert!(rt; !failed(&rt, &ran), "{object:?}");
+        assert!(rt; !failed(&rt, &ran, &file), "{object:?}");
     }
     Ok(())
 }

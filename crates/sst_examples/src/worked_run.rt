@@ -98,6 +98,15 @@ fn run_over(
     })
 }
 
+/// Appends the bytes that hex digits spell.
+pub(crate) fn put_hex(alloc: Global, bytes: &mut Vec<u8>, digits: &[&str]) -> Result<(), Fail> {
+    for piece in digits {
+        let piece = hex::decode(alloc, piece.as_bytes())?;
+        bytes.extend_from_slice(&piece)?;
+    }
+    Ok(())
+}
+
 /// Whether the named file holds these bytes.
 pub(crate) fn holds(ran: &Ran, name: &str, bytes: &[u8]) -> bool {
     match ran.folder.file(name) {
