@@ -59,22 +59,19 @@ common-take (x ∷ a) (y ∷ b) =
       | false ↦ λ e. rw (common-other x y a b (eqb-false x y e)) refl
     ] refl
 
-pub common-le_left : (a b : List ℕ) → common a b ≤ length a
-common-le_left [] b = omega arith
-common-le_left (x ∷ a) [] = omega arith
-common-le_left (x ∷ a) (y ∷ b) =
-    let rest = common-le_left a b in
-    elim (eqb x y) as (λ r. eqb x y ≡ r → common (x ∷ a) (y ∷ b) ≤ suc (length a)) [
-      | true ↦ λ e. let s = common-same x y a b (eqb-true x y e) in omega (arith, s)
-      | false ↦ λ e. let s = common-other x y a b (eqb-false x y e) in omega (arith, s)
+-- the shared front is no longer than either
+common-le : (a b : List ℕ) → (common a b ≤ length a) × (common a b ≤ length b)
+common-le [] b = (omega arith, omega arith)
+common-le (x ∷ a) [] = (omega arith, omega arith)
+common-le (x ∷ a) (y ∷ b) =
+    let rest = common-le a b in
+    elim (eqb x y) as (λ r. eqb x y ≡ r → (common (x ∷ a) (y ∷ b) ≤ suc (length a)) × (common (x ∷ a) (y ∷ b) ≤ suc (length b))) [
+      | true ↦ λ e. let s = common-same x y a b (eqb-true x y e) in (omega (arith, s, rest.0), omega (arith, s, rest.1))
+      | false ↦ λ e. let s = common-other x y a b (eqb-false x y e) in (omega (arith, s), omega (arith, s))
     ] refl
 
+pub common-le_left : (a b : List ℕ) → common a b ≤ length a
+common-le_left a b = (common-le a b).0
+
 pub common-le_right : (a b : List ℕ) → common a b ≤ length b
-common-le_right [] b = omega arith
-common-le_right (x ∷ a) [] = omega arith
-common-le_right (x ∷ a) (y ∷ b) =
-    let rest = common-le_right a b in
-    elim (eqb x y) as (λ r. eqb x y ≡ r → common (x ∷ a) (y ∷ b) ≤ suc (length b)) [
-      | true ↦ λ e. let s = common-same x y a b (eqb-true x y e) in omega (arith, s)
-      | false ↦ λ e. let s = common-other x y a b (eqb-false x y e) in omega (arith, s)
-    ] refl
+common-le_right a b = (common-le a b).1
