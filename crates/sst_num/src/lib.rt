@@ -53,13 +53,16 @@ mod byte_list;
 mod laws;
 mod put;
 mod stops;
+mod take;
 #[cfg(test)]
 mod tests;
 
 pub use block_handle::Handle;
 pub use byte_list::Bytes;
 pub use laws::{
-    fixed_reads_back, no_varint_begins_another, varint_is_the_only_spelling, varint_is_the_spelling,
+    fixed_reads_back, handle_is_taken_again, no_varint_begins_another, varint_is_taken_again,
+    varint_is_the_only_spelling, varint_is_the_spelling, varint32_is_taken_again,
 };
 pub use put::{put_fixed16, put_fixed32, put_fixed64, put_handle, put_varint32, put_varint64};
 pub use stops::{Memory, Refused, Stop};
+pub use take::{fixed16, fixed32, fixed64, take_handle, take_varint32, take_varint64};
