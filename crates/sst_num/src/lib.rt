@@ -39,10 +39,17 @@
 //!
 //! - Each `put_` call appends the one spelling of its number. Where memory runs out it answers so, and
 //!   leaves the list as it was.
+//! - Each `take_` call reads the front of some bytes. It answers the value whose one spelling is there and
+//!   how many bytes that takes, or None exactly where there is none in range. What was put is taken again,
+//!   whatever follows ([`varint_is_taken_again`], [`varint32_is_taken_again`],
+//!   [`handle_is_taken_again`]).
 //! - A varint takes at most ten bytes, is the only spelling of its number whose last byte isn't a needless
 //!   zero ([`varint_is_the_only_spelling`]), and begins no other ([`no_varint_begins_another`]). So
 //!   varints that follow one another need no mark between them.
-//! - A fixed number that fits its bytes is read back from them ([`fixed_reads_back`]).
+//! - A fixed number that fits its bytes is read back from them ([`fixed_reads_back`]); [`fixed16`],
+//!   [`fixed32`] and [`fixed64`] read one from the front of a slice that is long enough.
+//!
+//! RocksDB also takes a varint that is longer than it need be. Here it is refused.
 //!
 //! RocksDB: util/coding.h and util/coding_lean.h; table/format.h (`BlockHandle`); the wiki page "Rocksdb
 //! BlockBasedTable Format".
