@@ -1,3 +1,4 @@
 pub mod Fixed
 pub mod Groups
+pub mod Reading
 pub mod Varints

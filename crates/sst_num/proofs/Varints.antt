@@ -6,7 +6,7 @@ use Rattle.sst_num.specs.Spelling.{groups, varint, IsVarint}
 use Rattle.sst_num.proofs.Groups.{groups-small, groups-large}
 
 -- one group more, at the front
-IsVarint-more : (b high v : ℕ) (bytes : List ℕ) → IsVarint bytes high → 128 ≤ b → b < 256 → 0 < high → v + 128 ≡ b + 128 * high → IsVarint (b ∷ bytes) v
+pub IsVarint-more : (b high v : ℕ) (bytes : List ℕ) → IsVarint bytes high → 128 ≤ b → b < 256 → 0 < high → v + 128 ≡ b + 128 * high → IsVarint (b ∷ bytes) v
 IsVarint-more b high v [] spells low top some sum = absurd spells
 IsVarint-more b high v (c ∷ bytes) spells low top some sum = (low, top, (high, some, sum, spells))
 

@@ -1,5 +1,7 @@
-ghost use Rattle.std.specs.Prelude.{◌≡◌, ℕ, ◌<◌, ◌≤◌, ◌^◌, List, ◌++◌, length};
-ghost use Rattle.sst_num.specs.Spelling.{varint, fixed, fixed_value, IsVarint};
+ghost use Rattle.std.specs.Prelude.{◌≡◌, ℕ, ◌<◌, ◌≤◌, ◌^◌, List, ◌++◌, length, Some};
+ghost use Rattle.sst_num.specs.Spelling.{varint, fixed, fixed_value, handle_spelling, IsVarint};
+ghost use Rattle.sst_num.specs.Reading.{varint_at, varint32_at, handle_at};
+ghost use Rattle.sst_num.specs.declared.block_handle.Handle.{Handle};
 
 /// What is written for a number below 2^64 is a spelling of it, of at most ten bytes.
 ///
@@ -29,4 +31,25 @@ pub fn no_varint_begins_another()
 /// RocksDB: `EncodeFixed64` and `DecodeFixed64` in util/coding_lean.h.
 pub fn fixed_reads_back()
     ensures { (n v : ℕ) → v < 256 ^ n → fixed_value (fixed n v) ≡ v }
+{}
+
+/// What is written for a number below 2^64 is taken again, whatever follows.
+///
+/// RocksDB: `PutVarint64` and `GetVarint64` in util/coding.h.
+pub fn varint_is_taken_again()
+    ensures { (v : ℕ) (rest : List ℕ) → v < 2 ^ 64 → varint_at (varint v ++ rest) ≡ Some (v, length (varint v)) }
+{}
+
+/// What is written for a number below 2^32 is taken again as one of 32 bits, whatever follows.
+///
+/// RocksDB: `PutVarint32` and `GetVarint32` in util/coding.h.
+pub fn varint32_is_taken_again()
+    ensures { (v : ℕ) (rest : List ℕ) → v < 2 ^ 32 → varint32_at (varint v ++ rest) ≡ Some (v, length (varint v)) }
+{}
+
+/// What is written for a block handle is taken again, whatever follows.
+///
+/// RocksDB: `BlockHandle::EncodeTo` and `BlockHandle::DecodeFrom` in table/format.cc.
+pub fn handle_is_taken_again()
+    ensures { (h : Handle) (rest : List ℕ) → h.offset < 2 ^ 64 → h.size < 2 ^ 64 → handle_at (handle_spelling h ++ rest) ≡ Some (h, length (handle_spelling h)) }
 {}

@@ -39,10 +39,17 @@
 //!
 //! - Each `put_` call appends the one spelling of its number. Where memory runs out it answers so, and
 //!   leaves the list as it was.
+//! - Each `take_` call reads the front of some bytes. It answers the value whose one spelling is there and
+//!   how many bytes that takes, or None exactly where there is none in range. What was put is taken again,
+//!   whatever follows ([`varint_is_taken_again`], [`varint32_is_taken_again`],
+//!   [`handle_is_taken_again`]).
 //! - A varint takes at most ten bytes, is the only spelling of its number whose last byte isn't a needless
 //!   zero ([`varint_is_the_only_spelling`]), and begins no other ([`no_varint_begins_another`]). So
 //!   varints that follow one another need no mark between them.
-//! - A fixed number that fits its bytes is read back from them ([`fixed_reads_back`]).
+//! - A fixed number that fits its bytes is read back from them ([`fixed_reads_back`]); [`fixed16`],
+//!   [`fixed32`] and [`fixed64`] read one from the front of a slice that is long enough.
+//!
+//! RocksDB also takes a varint that is longer than it need be. Here it is refused.
 //!
 //! RocksDB: util/coding.h and util/coding_lean.h; table/format.h (`BlockHandle`); the wiki page "Rocksdb
 //! BlockBasedTable Format".
@@ -53,13 +60,16 @@ mod byte_list;
 mod laws;
 mod put;
 mod stops;
+mod take;
 #[cfg(test)]
 mod tests;
 
 pub use block_handle::Handle;
 pub use byte_list::Bytes;
 pub use laws::{
-    fixed_reads_back, no_varint_begins_another, varint_is_the_only_spelling, varint_is_the_spelling,
+    fixed_reads_back, handle_is_taken_again, no_varint_begins_another, varint_is_taken_again,
+    varint_is_the_only_spelling, varint_is_the_spelling, varint32_is_taken_again,
 };
 pub use put::{put_fixed16, put_fixed32, put_fixed64, put_handle, put_varint32, put_varint64};
 pub use stops::{Memory, Refused, Stop};
+pub use take::{fixed16, fixed32, fixed64, take_handle, take_varint32, take_varint64};

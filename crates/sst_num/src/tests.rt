@@ -1,5 +1,6 @@
 use crate::{
-    Bytes, Handle, put_fixed16, put_fixed32, put_fixed64, put_handle, put_varint32, put_varint64,
+    Bytes, Handle, fixed16, fixed32, fixed64, put_fixed16, put_fixed32, put_fixed64, put_handle,
+    put_varint32, put_varint64, take_handle, take_varint32, take_varint64,
 };
 use std::test::Fail;
 
@@ -51,6 +52,66 @@ fn handles(rt: HostRuntime) -> Result<(), Fail> {
         put_handle(&mut out, Handle { offset, size })?;
         assert_eq!(rt; out.as_slice(), bytes.as_slice(), "at {offset}");
     }
+    Ok(())
+}
+
+// A cut spelling, a longer one than need be, and numbers from 2^64 on aren't taken.
+#[test]
+fn varints_taken(rt: HostRuntime) -> Result<(), Fail> {
+    for (bytes, taken) in [
+        (&[0xac, 0x02, 0xff][..], Some((300u64, 2usize))),
+        (&[0x7f], Some((127, 1))),
+        (&[0x80, 0x00], None),
+        (&[0x80], None),
+        (&[], None),
+        (
+            &[0xff, 0xff, 0xff, 0xff, 0xff, 0xff, 0xff, 0xff, 0xff, 0x01],
+            Some((u64::MAX, 10)),
+        ),
+        (
+            &[0xff, 0xff, 0xff, 0xff, 0xff, 0xff, 0xff, 0xff, 0xff, 0x02],
+            None,
+        ),
+        (
+            &[
+                0xff, 0xff, 0xff, 0xff, 0xff, 0xff, 0xff, 0xff, 0xff, 0x81, 0x01,
+            ],
+            None,
+        ),
+    ] {
+        assert_eq!(rt; take_varint64(bytes), taken);
+    }
+    Ok(())
+}
+
+// The bounds of 32 bits.
+#[test]
+fn varints_of_32_bits_taken(rt: HostRuntime) -> Result<(), Fail> {
+    assert_eq!(rt;
+        take_varint32(&[0xff, 0xff, 0xff, 0xff, 0x0f]),
+        Some((u32::MAX, 5))
+    );
+    assert_eq!(rt; take_varint32(&[0x80, 0x80, 0x80, 0x80, 0x10]), None);
+    Ok(())
+}
+
+#[test]
+fn handles_taken(rt: HostRuntime) -> Result<(), Fail> {
+    let handle = Handle {
+        offset: 40,
+        size: 300,
+    };
+    assert_eq!(rt; take_handle(&[0x28, 0xac, 0x02]), Some((handle, 3)));
+    assert_eq!(rt; take_handle(&[0x28, 0xac]), None);
+    Ok(())
+}
+
+#[test]
+fn fixed_numbers_read(rt: HostRuntime) -> Result<(), Fail> {
+    let bytes = [8, 7, 6, 5, 4, 3, 2, 1];
+    assert_eq!(rt; fixed16(&bytes), 0x0708);
+    assert_eq!(rt; fixed32(&bytes), 0x0506_0708);
+    assert_eq!(rt; fixed64(&bytes), 0x0102_0304_0506_0708);
     Ok(())
 }
 
