@@ -45,6 +45,7 @@ mod calls;
 mod entries;
 mod faults;
 mod keys;
+mod reading;
 #[cfg(test)]
 mod tests;
 
@@ -52,3 +53,4 @@ pub use calls::{Call, Format, Reply, Target};
 pub use entries::{Entry, EntryView, Kind};
 pub use faults::WriteFault;
 pub use keys::{cmp_internal, internal_order_is_entry_order, pack};
+pub use reading::{packed_is_unpacked, unpack};
