@@ -48,6 +48,7 @@ mod entries;
 mod faults;
 mod keys;
 mod reading;
+mod room;
 #[cfg(test)]
 mod tests;
 
@@ -56,3 +57,4 @@ pub use entries::{Entry, EntryView, Kind};
 pub use faults::WriteFault;
 pub use keys::{cmp_internal, internal_order_is_entry_order, pack};
 pub use reading::{packed_is_unpacked, unpack};
+pub use room::KeyRoom;
