@@ -36,6 +36,7 @@
 //!   list keeps its old bytes, with others behind them.
 //! - [`unpack`] reads an internal key, and answers None exactly where the key is shorter than eight bytes or its
 //!   kind byte is no kind's number. It takes no memory. What was packed is unpacked ([`packed_is_unpacked`]).
+//! - A [`KeyRoom`] holds one internal key after another. It takes memory when it is made, and none later.
 //! - [`cmp_internal`] compares internal keys as the order says, and takes no memory.
 //! - The order of internal keys is the order of their entries ([`internal_order_is_entry_order`]).
 //!

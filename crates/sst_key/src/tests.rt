@@ -1,4 +1,4 @@
-use crate::{Kind, cmp_internal, pack, unpack};
+use crate::{KeyRoom, Kind, cmp_internal, pack, unpack};
 use std::cmp::Ordering;
 use std::test::Fail;
 
@@ -63,4 +63,22 @@ fn unpacked_keys(rt: HostRuntime) {
     ] {
         assert_eq!(rt; unpack(key), parts, "at {key:?}");
     }
+}
+
+// A room has no key at first; each key keeps a front of the one before it, up to the longest key.
+#[test]
+fn key_room(rt: HostRuntime) -> Result<(), Fail> {
+    let mut room = KeyRoom::new(rt.alloc())?;
+    assert_eq!(rt; room.bytes(), &b""[..]);
+    room.set(0, b"apple");
+    assert_eq!(rt; room.bytes(), &b"apple"[..]);
+    room.set(2, b"ricot");
+    assert_eq!(rt; room.bytes(), &b"apricot"[..]);
+    room.set(7, b"");
+    assert_eq!(rt; room.bytes(), &b"apricot"[..]);
+    room.set(7, &[0; 65_537]);
+    assert_eq!(rt; room.bytes().len(), 65_544);
+    room.set(0, b"");
+    assert_eq!(rt; room.bytes(), &b""[..]);
+    Ok(())
 }
