@@ -34,17 +34,22 @@
 //!
 //! - [`pack`] appends the internal key of what it is given. Where memory runs out it answers so, and the
 //!   list keeps its old bytes, with others behind them.
+//! - [`unpack`] reads an internal key, and answers None exactly where the key is shorter than eight bytes or its
+//!   kind byte is no kind's number. It takes no memory. What was packed is unpacked ([`packed_is_unpacked`]).
+//! - A [`KeyRoom`] holds one internal key after another. It takes memory when it is made, and none later.
 //! - [`cmp_internal`] compares internal keys as the order says, and takes no memory.
 //! - The order of internal keys is the order of their entries ([`internal_order_is_entry_order`]).
 //!
-//! RocksDB: db/dbformat.h (`ValueType`, `PackSequenceAndType`, `InternalKeyComparator`) and
-//! db/dbformat.cc (`AppendInternalKey`).
+//! RocksDB: db/dbformat.h (`ValueType`, `PackSequenceAndType`, `ParseInternalKey`,
+//! `InternalKeyComparator`) and db/dbformat.cc (`AppendInternalKey`).
 #![tactic(auto)]
 
 mod calls;
 mod entries;
 mod faults;
 mod keys;
+mod reading;
+mod room;
 #[cfg(test)]
 mod tests;
 
@@ -52,3 +57,5 @@ pub use calls::{Call, Format, Reply, Target};
 pub use entries::{Entry, EntryView, Kind};
 pub use faults::WriteFault;
 pub use keys::{cmp_internal, internal_order_is_entry_order, pack};
+pub use reading::{packed_is_unpacked, unpack};
+pub use room::KeyRoom;

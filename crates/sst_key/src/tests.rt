@@ -1,4 +1,4 @@
-use crate::{Kind, cmp_internal, pack};
+use crate::{KeyRoom, Kind, cmp_internal, pack, unpack};
 use std::cmp::Ordering;
 use std::test::Fail;
 
@@ -39,4 +39,46 @@ fn compared_keys(rt: HostRuntime) {
     assert_eq!(rt; cmp_internal(older, newer), Ordering::Greater);
     assert_eq!(rt; cmp_internal(older, older), Ordering::Equal);
     assert_eq!(rt; cmp_internal(older, longer), Ordering::Less);
+}
+
+// The key `a` (61) at sequence number 1; no user key; each kind by its number, the greatest sequence number behind
+// one; a key of seven bytes; and a kind byte that stands for no kind.
+#[test]
+fn unpacked_keys(rt: HostRuntime) {
+    for (key, parts) in [
+        (
+            &[0x61u8, 1, 1, 0, 0, 0, 0, 0, 0][..],
+            Some((1usize, 1u64, Kind::Value)),
+        ),
+        (&[0, 0, 0, 0, 0, 0, 0, 0], Some((0, 0, Kind::Deletion))),
+        (&[2, 0, 1, 0, 0, 0, 0, 0], Some((0, 256, Kind::Merge))),
+        (
+            &[7, 255, 255, 255, 255, 255, 255, 255],
+            Some((0, 0xff_ffff_ffff_ffff, Kind::SingleDeletion)),
+        ),
+        (&[1, 0, 0, 0, 0, 0, 0], None),
+        (&[], None),
+        (&[0x61, 3, 1, 0, 0, 0, 0, 0, 0], None),
+        (&[0x61, 255, 1, 0, 0, 0, 0, 0, 0], None),
+    ] {
+        assert_eq!(rt; unpack(key), parts, "at {key:?}");
+    }
+}
+
+// A room has no key at first; each key keeps a front of the one before it, up to the longest key.
+#[test]
+fn key_room(rt: HostRuntime) -> Result<(), Fail> {
+    let mut room = KeyRoom::new(rt.alloc())?;
+    assert_eq!(rt; room.bytes(), &b""[..]);
+    room.set(0, b"apple");
+    assert_eq!(rt; room.bytes(), &b"apple"[..]);
+    room.set(2, b"ricot");
+    assert_eq!(rt; room.bytes(), &b"apricot"[..]);
+    room.set(7, b"");
+    assert_eq!(rt; room.bytes(), &b"apricot"[..]);
+    room.set(7, &[0; 65_537]);
+    assert_eq!(rt; room.bytes().len(), 65_544);
+    room.set(0, b"");
+    assert_eq!(rt; room.bytes(), &b""[..]);
+    Ok(())
 }
