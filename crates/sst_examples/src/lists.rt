@@ -331,3 +331,22 @@ fn later_long_lines(rt: HostRuntime) -> Result<(), Fail> {
     }
     Ok(())
 }
+
+/// The lines of so many entries with keys of four bytes, in order, and no value. Each weighs 68.
+fn light_lines(alloc: Global, count: u32) -> Result<Vec<u8>, Fail> {
+    let mut text = Vec::new(alloc);
+    for number in 0..count {
+        let line = format!(in alloc; "{number:08x} 1 P -\n")?;
+        text.extend_from_slice(line.as_bytes())?;
+    }
+    Ok(text)
+}
+
+// 3,947,580 times 68 is 268,435,440, and 2^28 is 268,435,456.
+#[test]
+fn a_list_too_heavy(rt: HostRuntime) -> Result<(), Fail> {
+    let text = light_lines(rt.alloc(), 3_947_581)?;
+    let ran = written(rt.alloc(), &text)?;
+    assert!(rt; refused(&ran, "input 3947581 heavy\n"));
+    Ok(())
+}
