@@ -1,7 +1,7 @@
 -- What the front of a list of bytes reads as: a number, or a block handle, and how many bytes it takes.
 -- RocksDB: util/coding.h (GetVarint32Ptr, GetVarint64, DecodeFixed64, and their kin), table/format.h
 -- (BlockHandle::DecodeFrom). RocksDB also takes a varint that is longer than it need be; here it is refused.
-use Rattle.std.specs.Prelude.{◌≡◌, ℕ, zero, suc, ◌+◌, ◌-◌, ◌*◌, ◌^◌, List, [], ◌∷◌, ◌++◌, length, drop, Bool, ◌&&◌, nat_lt, if◌then◌else◌, Option, Some, None, option_and_then}
+use Rattle.std.specs.Prelude.{◌≡◌, ℕ, zero, suc, ◌+◌, ◌-◌, ◌*◌, ◌^◌, List, [], ◌∷◌, ◌++◌, length, drop, Bool, ◌&&◌, nat_lt, if◌then◌else◌, Option, Some, None, option_and_then, option_map}
 use Rattle.sst_num.specs.declared.block_handle.Handle.{Handle}
 use Rattle.sst_num.specs.Spelling.{varint, handle_spelling}
 
@@ -43,6 +43,12 @@ handle_at bytes =
     option_and_then
     (λ offset. option_and_then (λ size. Some (handle_of offset size)) (varint_at (drop offset.1 bytes)))
     (varint_at bytes)
+
+-- the number that the first n bytes spell, the lowest first
+abbrev pub fixed_at : ℕ → List ℕ → Option ℕ
+fixed_at zero bytes = Some 0
+fixed_at (suc n) [] = None
+fixed_at (suc n) (b ∷ bytes) = if nat_lt b 256 then option_map (λ high. b + 256 * high) (fixed_at n bytes) else None
 
 -- the bytes begin with the spelling of a number, which takes so many bytes
 abbrev pub StartsWithVarint : List ℕ → ℕ → ℕ → Type 0

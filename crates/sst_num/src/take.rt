@@ -1,10 +1,9 @@
 ghost use Rattle.std.specs.Prelude.{◌≡◌, ℕ, ◌<◌, ◌≤◌, ◌^◌, List, ◌++◌, length, take, IfSome, IfNone};
 ghost use Rattle.sst_num.specs.Spelling.{varint, fixed_value, handle_spelling};
-ghost use Rattle.sst_num.specs.Reading.{with_group, groups_at, varint_at, varint32_at, handle_at, StartsWithVarint, StartsWithHandle};
+ghost use Rattle.sst_num.specs.Reading.{with_group, groups_at, fixed_at, varint_at, varint32_at, handle_at, StartsWithVarint, StartsWithHandle};
 ghost use Rattle.sst_num.specs.declared.block_handle.Handle.{Handle as handle_type};
 
 use crate::block_handle::Handle;
-use byteorder::{ByteOrder, LittleEndian};
 
 /// The most groups that a varint has.
 const MOST_GROUPS: usize = 10;
@@ -91,9 +90,10 @@ pub fn take_handle(b: &[u8]) -> Option<(Handle, usize)>
 /// RocksDB: `DecodeFixed16` in util/coding_lean.h.
 pub fn fixed16(b: &[u8]) -> u16
     requires { 2 ≤ length b.now }
-    ensures { result ≡ fixed_value (take 2 b.now) }
+    ensures value { result ≡ fixed_value (take 2 b.now) }
+    ensures exact { fixed_at 2 b.now ≡ Some result }
 {
-    LittleEndian::read_u16(b)
+    u16::from_le_bytes([b[0], b[1]])
 }
 
 /// The number in the first four bytes, the lowest first. The slice has at least four.
@@ -101,9 +101,10 @@ pub fn fixed16(b: &[u8]) -> u16
 /// RocksDB: `DecodeFixed32` in util/coding_lean.h.
 pub fn fixed32(b: &[u8]) -> u32
     requires { 4 ≤ length b.now }
-    ensures { result ≡ fixed_value (take 4 b.now) }
+    ensures value { result ≡ fixed_value (take 4 b.now) }
+    ensures exact { fixed_at 4 b.now ≡ Some result }
 {
-    LittleEndian::read_u32(b)
+    u32::from_le_bytes([b[0], b[1], b[2], b[3]])
 }
 
 /// The number in the first eight bytes, the lowest first. The slice has at least eight.
@@ -111,7 +112,8 @@ pub fn fixed32(b: &[u8]) -> u32
 /// RocksDB: `DecodeFixed64` in util/coding_lean.h.
 pub fn fixed64(b: &[u8]) -> u64
     requires { 8 ≤ length b.now }
-    ensures { result ≡ fixed_value (take 8 b.now) }
+    ensures value { result ≡ fixed_value (take 8 b.now) }
+    ensures exact { fixed_at 8 b.now ≡ Some result }
 {
-    LittleEndian::read_u64(b)
+    u64::from_le_bytes([b[0], b[1], b[2], b[3], b[4], b[5], b[6], b[7]])
 }
