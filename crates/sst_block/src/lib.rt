@@ -56,11 +56,13 @@
 #![tactic(auto)]
 
 mod builder;
+mod fault;
 mod laws;
 mod row_form;
 #[cfg(test)]
 mod tests;
 
 pub use builder::BlockBuilder;
+pub use fault::BlockFault;
 pub use laws::chosen_block_stands_for_its_rows;
 pub use row_form::RowForm;

@@ -1,0 +1,197 @@
+-- What the bytes of a block read as: its rows, or its first fault. The faults come in this order: the footer, which
+-- says how many restarts there are; the rows, one by one; the restarts, one by one.
+-- RocksDB: DecodeEntry and CheckAndDecodeEntry in table/block_based/block_util.h and block.cc, Block::NumRestarts in
+-- table/block_based/block.cc. RocksDB checks less: what more is refused here is this project's own.
+use Rattle.std.specs.Prelude.{◌≡◌, ℕ, zero, suc, ◌+◌, ◌-◌, ◌*◌, ◌==◌, Bool, true, false, not, ◌&&◌, nat_lt, nat_le, nat_eq, if◌then◌else◌, List, [], ◌∷◌, ◌++◌, length, take, drop, map, Option, None, Some, option_and_then, Result, Ok, Err}
+use Rattle.std.specs.List.{list_any}
+use Rattle.std.specs.Option.{is_some}
+use Rattle.std.specs.Ordering.{is_lt}
+use Rattle.sst_num.specs.Spelling.{fixed_value}
+use Rattle.sst_num.specs.Reading.{varint32_at, handle_at, fixed_at}
+use Rattle.sst_num.specs.declared.block_handle.Handle.{Handle}
+use Rattle.sst_num.specs.declared.stops.Refused.{Refused}
+use Rattle.sst_num.specs.declared.stops.Refused.TheVariants.{Cause, Memory}
+use Rattle.sst_key.specs.InternalKey.{parts_of}
+use Rattle.sst_block.specs.declared.row_form.RowForm.{RowForm}
+use Rattle.sst_block.specs.declared.row_form.RowForm.TheVariants.{Entries, Names, Index}
+use Rattle.sst_block.specs.declared.fault.BlockFault.{BlockFault}
+use Rattle.sst_block.specs.declared.fault.BlockFault.TheVariants.{BadRow, BadRestart, BadFooter, Disorder, BadKind, BadHandle}
+use Rattle.sst_block.specs.Block.{Row, Spelled, key_cmp, fresh_starts}
+
+-- the three lengths that a row begins with, and how many bytes they take
+pub record Lengths : Type 0 where
+  pub shared : ℕ
+  pub rest : ℕ
+  pub value : ℕ
+  pub used : ℕ
+
+-- three varints, one behind the other
+unfoldable pub lengths_at : List ℕ → Option Lengths
+lengths_at bytes =
+    option_and_then (λ shared. option_and_then (λ rest. option_and_then (λ value.
+    Some (record { shared = shared.0; rest = rest.0; value = value.0; used = shared.1 + rest.1 + value.1 }))
+    (varint32_at (drop (shared.1 + rest.1) bytes)))
+    (varint32_at (drop shared.1 bytes)))
+    (varint32_at bytes)
+
+-- the lengths agree with the `room` that is left for rows: the key before has the shared bytes, the row ends within
+-- the room, and its key isn't longer than a stored key may be
+abbrev pub are_within : List ℕ → ℕ → Lengths → Bool
+are_within before room l =
+    nat_le l.shared (length before) && (nat_le (l.used + l.rest + l.value) room && nat_le (l.shared + l.rest) 65544)
+
+-- the row of these lengths: the shared front of the key before and the bytes that follow, and then the value
+abbrev pub row_by : List ℕ → List ℕ → Lengths → Spelled
+row_by before bytes l =
+    record {
+      shared = l.shared;
+      row = record {
+        key = take l.shared before ++ take l.rest (drop l.used bytes);
+        value = take l.value (drop (l.used + l.rest) bytes);
+      };
+    }
+
+-- the row at the front, and how many bytes it takes
+abbrev pub row_of_lengths : List ℕ → List ℕ → Lengths → Option (Spelled × ℕ)
+row_of_lengths before bytes l =
+    if are_within before (length bytes) l then Some (row_by before bytes l, l.used + l.rest + l.value) else None
+
+unfoldable pub row_at : List ℕ → List ℕ → Option (Spelled × ℕ)
+row_at before bytes = option_and_then (row_of_lengths before bytes) (lengths_at bytes)
+
+-- the keys of the form end with a tag
+abbrev pub has_tag : RowForm → Bool
+has_tag Entries = true
+has_tag Names = false
+has_tag (Index user_key delta) = not user_key
+
+-- the key is an internal key: its last eight bytes are a tag with one of the four kinds
+abbrev pub is_internal_key : List ℕ → Bool
+is_internal_key key = is_some (parts_of key) && is_some (fixed_at 8 (drop (length key - 8) key))
+
+-- the value is a block handle and nothing else
+abbrev pub is_whole : ℕ → Option (Handle × ℕ) → Bool
+is_whole n None = false
+is_whole n (Some read) = read.1 == n
+
+abbrev pub is_handle : List ℕ → Bool
+is_handle value = is_whole (length value) (handle_at value)
+
+-- what the form says of a row's value and of the kind in its key, in this order; `at` is where the row begins
+abbrev pub form_fault : RowForm → ℕ → Row → Option BlockFault
+form_fault Entries at row = if is_internal_key row.key then None else Some (BadKind at)
+form_fault Names at row = None
+form_fault (Index user_key delta) at row = if is_handle row.value then None else Some (BadHandle at)
+
+-- the key is after the one before, if there is one
+abbrev pub is_after : RowForm → Option (List ℕ) → List ℕ → Bool
+is_after form None key = true
+is_after form (Some before) key = is_lt (key_cmp form before key)
+
+abbrev pub order_fault : RowForm → ℕ → Option (List ℕ) → Row → Option BlockFault
+order_fault form at before row = if is_after form before row.key then None else Some (Disorder at)
+
+-- one fault, or else another
+abbrev pub or_fault : Option BlockFault → Option BlockFault → Option BlockFault
+or_fault None next = next
+or_fault (Some fault) next = Some fault
+
+-- the first fault of a row whose lengths are good: its key is too short for a tag, what the form says, the order
+abbrev pub row_fault : RowForm → ℕ → Option (List ℕ) → Row → Option BlockFault
+row_fault form at before row =
+    if has_tag form && nat_lt (length row.key) 8 then Some (BadRow at)
+    else or_fault (form_fault form at row) (order_fault form at before row)
+
+-- the front that a key may share
+abbrev pub key_before : Option (List ℕ) → List ℕ
+key_before None = []
+key_before (Some key) = key
+
+-- a value, or the fault
+abbrev pub unless : {A : Type 0} → A → Option BlockFault → Result A BlockFault
+unless x None = Ok x
+unless x (Some fault) = Err fault
+
+-- the next step, if the one before found no fault
+abbrev pub then_read : {A B : Type 0} → Result A BlockFault → (A → Result B BlockFault) → Result B BlockFault
+then_read (Ok x) next = next x
+then_read (Err fault) next = Err fault
+
+-- the row at the front, if it has no fault
+abbrev pub sound_row : RowForm → ℕ → Option (List ℕ) → Option (Spelled × ℕ) → Result (Spelled × ℕ) BlockFault
+sound_row form at before None = Err (BadRow at)
+sound_row form at before (Some read) = unless read (row_fault form at before read.0.row)
+
+unfoldable pub row_read : RowForm → ℕ → Option (List ℕ) → List ℕ → Result (Spelled × ℕ) BlockFault
+row_read form at before bytes = sound_row form at before (row_at (key_before before) bytes)
+
+-- a row before others
+abbrev pub onto_rows : Spelled → Result (List Spelled) BlockFault → Result (List Spelled) BlockFault
+onto_rows s rest = then_read rest (λ rows. Ok (s ∷ rows))
+
+-- the rows that stand in the bytes, of which there are at most n: `at` is where the first begins, `before` the key
+-- before it
+abbrev pub rows_from : ℕ → RowForm → ℕ → Option (List ℕ) → List ℕ → Result (List Spelled) BlockFault
+rows_from zero form at before bytes = Ok []
+rows_from (suc n) form at before [] = Ok []
+rows_from (suc n) form at before (b ∷ bytes) =
+    then_read (row_read form at before (b ∷ bytes))
+    (λ read. onto_rows read.0 (rows_from n form (at + read.1) (Some read.0.row.key) (drop read.1 (b ∷ bytes))))
+
+-- the rows that stand in the bytes; each takes a byte at least
+unfoldable pub rows_read : RowForm → List ℕ → Result (List Spelled) BlockFault
+rows_read form bytes = rows_from (length bytes) form 0 None bytes
+
+-- how many restarts the last four bytes say; bit 31 would say that a hash part is there, and for now makes the number
+-- too large
+abbrev pub restart_count : List ℕ → ℕ
+restart_count bytes = fixed_value (drop (length bytes - 4) bytes)
+
+-- the footer is there, it names one restart at least, and the restarts stand before it
+abbrev pub has_footer : List ℕ → Bool
+has_footer bytes =
+    nat_le 8 (length bytes) && (nat_lt 0 (restart_count bytes) && nat_le (4 * restart_count bytes + 4) (length bytes))
+
+-- where the rows end
+abbrev pub rows_end : List ℕ → ℕ
+rows_end bytes = length bytes - 4 - 4 * restart_count bytes
+
+-- the next n numbers of four bytes
+abbrev pub numbers_at : ℕ → List ℕ → List ℕ
+numbers_at zero bytes = []
+numbers_at (suc n) bytes = fixed_value (take 4 bytes) ∷ numbers_at n (drop 4 bytes)
+
+-- the first restart that isn't after the one before or isn't among the `fresh` places; `i` is the number of the first
+abbrev pub restart_fault : List ℕ → ℕ → ℕ → List ℕ → Option BlockFault
+restart_fault fresh i before [] = None
+restart_fault fresh i before (r ∷ rest) =
+    if nat_lt before r && list_any (nat_eq r) fresh then restart_fault fresh (i + 1) r rest else Some (BadRestart i)
+
+-- the first restart that breaks a rule: the first is 0, and each other one is after the one before and is the start of
+-- a row that shares nothing
+abbrev pub restarts_fault : List ℕ → List ℕ → Option BlockFault
+restarts_fault fresh [] = None
+restarts_fault fresh (first ∷ rest) = if first == 0 then restart_fault fresh 1 0 rest else Some (BadRestart 0)
+
+-- the rows, if the restarts have no fault
+abbrev pub with_restarts : List ℕ → List Spelled → Result (List Spelled) BlockFault
+with_restarts restarts spelled = unless spelled (restarts_fault (fresh_starts 0 spelled) restarts)
+
+-- the rows of a block, or its first fault
+unfoldable pub block_read : RowForm → List ℕ → Result (List Spelled) BlockFault
+block_read form bytes =
+    if has_footer bytes
+    then then_read (rows_read form (take (rows_end bytes) bytes)) (with_restarts (numbers_at (restart_count bytes) (drop (rows_end bytes) bytes)))
+    else Err BadFooter
+
+-- the bytes read as these rows
+pub record Reads (form : RowForm) (bytes : List ℕ) (rows : List Row) : Type 0 where
+  pub spelled : List Spelled
+  pub reads : block_read form bytes ≡ Ok spelled
+  pub are_rows : map (λ (s : Spelled). s.row) spelled ≡ rows
+
+-- an answer is what was read: the number of rows, or the first fault; want of memory says nothing
+abbrev pub Gives : Result ℕ (Refused BlockFault) → Result (List Spelled) BlockFault → Type 0
+Gives (Ok n) read = (spelled : List Spelled) × (read ≡ Ok spelled) × (length spelled ≡ n)
+Gives (Err Memory) read = Unit {0}
+Gives (Err (Cause fault)) read = read ≡ Err fault
