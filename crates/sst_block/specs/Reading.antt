@@ -6,7 +6,6 @@ use Rattle.std.specs.Prelude.{◌≡◌, ℕ, zero, suc, ◌+◌, ◌-◌, ◌*�
 use Rattle.std.specs.List.{list_any}
 use Rattle.std.specs.Option.{is_some}
 use Rattle.std.specs.Ordering.{is_lt}
-use Rattle.sst_num.specs.Spelling.{fixed_value}
 use Rattle.sst_num.specs.Reading.{varint32_at, handle_at, fixed_at}
 use Rattle.sst_num.specs.declared.block_handle.Handle.{Handle}
 use Rattle.sst_num.specs.declared.stops.Refused.{Refused}
@@ -142,47 +141,60 @@ rows_from (suc n) form at before (b ∷ bytes) =
 unfoldable pub rows_read : RowForm → List ℕ → Result (List Spelled) BlockFault
 rows_read form bytes = rows_from (length bytes) form 0 None bytes
 
--- how many restarts the last four bytes say; bit 31 would say that a hash part is there, and for now makes the number
--- too large
-abbrev pub restart_count : List ℕ → ℕ
-restart_count bytes = fixed_value (drop (length bytes - 4) bytes)
+-- the number of restarts agrees with the block's length: there is one at least, and they stand before the footer
+abbrev pub fits_in : ℕ → ℕ → Bool
+fits_in size count = nat_lt 0 count && nat_le (4 * count + 4) size
 
--- the footer is there, it names one restart at least, and the restarts stand before it
-abbrev pub has_footer : List ℕ → Bool
-has_footer bytes =
-    nat_le 8 (length bytes) && (nat_lt 0 (restart_count bytes) && nat_le (4 * restart_count bytes + 4) (length bytes))
+-- the number of four bytes at the front, if it passes the test
+abbrev pub number_where : (ℕ → Bool) → List ℕ → Option ℕ
+number_where test bytes = option_and_then (λ n. if test n then Some n else None) (fixed_at 4 bytes)
 
--- where the rows end
-abbrev pub rows_end : List ℕ → ℕ
-rows_end bytes = length bytes - 4 - 4 * restart_count bytes
+-- how many restarts the footer says, which is the last four bytes, if it is good; bit 31 would say that a hash part is
+-- there, and for now makes the number too large
+abbrev pub restart_count : List ℕ → Option ℕ
+restart_count bytes =
+    if nat_lt (length bytes) 8 then None else number_where (fits_in (length bytes)) (drop (length bytes - 4) bytes)
 
--- the next n numbers of four bytes
-abbrev pub numbers_at : ℕ → List ℕ → List ℕ
-numbers_at zero bytes = []
-numbers_at (suc n) bytes = fixed_value (take 4 bytes) ∷ numbers_at n (drop 4 bytes)
+-- where the rows end, before so many restarts and the footer
+abbrev pub rows_end : List ℕ → ℕ → ℕ
+rows_end bytes count = length bytes - 4 - 4 * count
 
--- the first restart that isn't after the one before or isn't among the `fresh` places; `i` is the number of the first
-abbrev pub restart_fault : List ℕ → ℕ → ℕ → List ℕ → Option BlockFault
-restart_fault fresh i before [] = None
-restart_fault fresh i before (r ∷ rest) =
-    if nat_lt before r && list_any (nat_eq r) fresh then restart_fault fresh (i + 1) r rest else Some (BadRestart i)
+-- a restart other than the first is after the one before, and is one of the `fresh` places
+abbrev pub may_follow : List ℕ → ℕ → ℕ → Bool
+may_follow fresh before restart = nat_lt before restart && list_any (nat_eq restart) fresh
 
--- the first restart that breaks a rule: the first is 0, and each other one is after the one before and is the start of
--- a row that shares nothing
-abbrev pub restarts_fault : List ℕ → List ℕ → Option BlockFault
-restarts_fault fresh [] = None
-restarts_fault fresh (first ∷ rest) = if first == 0 then restart_fault fresh 1 0 rest else Some (BadRestart 0)
+-- a fault where there is no number, else what comes of the number
+abbrev pub by_number : BlockFault → Option ℕ → (ℕ → Option BlockFault) → Option BlockFault
+by_number fault None next = Some fault
+by_number fault (Some n) next = next n
+
+-- of the next n restarts the first that may not follow the one before; `i` is the number of the first of them
+abbrev pub restart_fault : List ℕ → ℕ → ℕ → ℕ → List ℕ → Option BlockFault
+restart_fault fresh zero i before bytes = None
+restart_fault fresh (suc n) i before bytes =
+    by_number (BadRestart i) (number_where (may_follow fresh before) bytes)
+    (λ restart. restart_fault fresh n (i + 1) restart (drop 4 bytes))
+
+-- the first restart that breaks a rule: the first of all is 0, and each other one is after the one before and is the
+-- start of a row that shares nothing
+abbrev pub restarts_fault : List ℕ → ℕ → List ℕ → Option BlockFault
+restarts_fault fresh zero bytes = None
+restarts_fault fresh (suc n) bytes =
+    by_number (BadRestart 0) (number_where (λ first. first == 0) bytes) (λ first. restart_fault fresh n 1 first (drop 4 bytes))
 
 -- the rows, if the restarts have no fault
-abbrev pub with_restarts : List ℕ → List Spelled → Result (List Spelled) BlockFault
-with_restarts restarts spelled = unless spelled (restarts_fault (fresh_starts 0 spelled) restarts)
+abbrev pub with_restarts : ℕ → List ℕ → List Spelled → Result (List Spelled) BlockFault
+with_restarts count bytes spelled = unless spelled (restarts_fault (fresh_starts 0 spelled) count bytes)
+
+-- the rows before so many restarts, or the first fault
+abbrev pub parts_read : RowForm → List ℕ → Option ℕ → Result (List Spelled) BlockFault
+parts_read form bytes None = Err BadFooter
+parts_read form bytes (Some count) =
+    then_read (rows_read form (take (rows_end bytes count) bytes)) (with_restarts count (drop (rows_end bytes count) bytes))
 
 -- the rows of a block, or its first fault
 unfoldable pub block_read : RowForm → List ℕ → Result (List Spelled) BlockFault
-block_read form bytes =
-    if has_footer bytes
-    then then_read (rows_read form (take (rows_end bytes) bytes)) (with_restarts (numbers_at (restart_count bytes) (drop (rows_end bytes) bytes)))
-    else Err BadFooter
+block_read form bytes = parts_read form bytes (restart_count bytes)
 
 -- the bytes read as these rows
 pub record Reads (form : RowForm) (bytes : List ℕ) (rows : List Row) : Type 0 where
