@@ -35,7 +35,7 @@ padded old first second third new metaindex index start len a b c at long e =
 -- the whole footer, after what stood there
 pub footer_put : (old first second new : List ℕ) (metaindex index : Handle) (version magic : List ℕ)
     → first ≡ old ++ (footer_front metaindex index ++ replicate (41 - length (footer_front metaindex index)) 0)
-    → second ≡ first ++ version → new ≡ second ++ magic → version ++ magic ≡ footer_back
+    → second ≡ first ++ version → new ≡ second ++ magic → version ++ magic ≡ footer_back 2
     → new ≡ old ++ footer_of metaindex index
 unfolding footer_of
 footer_put old first second new metaindex index version magic a b c back =
@@ -44,5 +44,5 @@ footer_put old first second new metaindex index version magic a b c back =
     c ∙ ap (λ (x : List ℕ). x ++ magic) (b ∙ ap (λ (x : List ℕ). x ++ version) a)
     ∙ append_assoc (old ++ (front ++ zeros)) version magic
     ∙ ap (λ (x : List ℕ). (old ++ (front ++ zeros)) ++ x) back
-    ∙ append_assoc old (front ++ zeros) footer_back
-    ∙ ap (λ (x : List ℕ). old ++ x) (append_assoc front zeros footer_back)
+    ∙ append_assoc old (front ++ zeros) (footer_back 2)
+    ∙ ap (λ (x : List ℕ). old ++ x) (append_assoc front zeros (footer_back 2))

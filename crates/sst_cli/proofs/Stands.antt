@@ -1,7 +1,7 @@
 -- The file that is written for a list stands for that list.
 use Rattle.std.proofs.Common.{◌≡◌, ◌≢◌, ℕ, ◌+◌, ◌-◌, ◌^◌, ◌<◌, ◌≤◌, false, List, [], ◌∷◌, ◌++◌, length, length-append, replicate, All, refl, sym, ap, ◌∙◌, subst, append_assoc, sum_by, arith}
 use Rattle.std.proofs.lemmas.List.{length-replicate}
-use Rattle.std.proofs.lemmas.List.Elements.{All-nil, All-cons}
+use Rattle.std.proofs.lemmas.List.Elements.{All-nil, All-cons, All-weaker}
 use Rattle.std.proofs.lemmas.List.Sums.{sum_by-cons}
 use Rattle.std.specs.declared.cmp.Ordering.TheVariants.{Equal, Greater}
 use Rattle.std.specs.Cmp.{nat_cmp_is}
@@ -17,8 +17,8 @@ use Rattle.sst_block.proofs.BlockLaws.{block_of_is_block}
 use Rattle.sst_block.proofs.Size.{block_of-le}
 use Rattle.sst_cli.specs.Framed.{Framed, frame_of, trailer_of}
 use Rattle.sst_cli.specs.Meta.{Meta, footer_front, footer_back, footer_of}
-use Rattle.sst_cli.specs.BlockBased.{rows_of, Runs, BlockBased}
-use Rattle.sst_cli.specs.Written.{Fits, data_block, data_handle, data_part, index_rows, index_block, index_handle, metaindex_block, metaindex_handle, table_of, Written}
+use Rattle.sst_cli.specs.BlockBased.{rows_of, HasSeq, Runs, AreSeparated, BlockBased}
+use Rattle.sst_cli.specs.Written.{Fits, IsInLimits, data_block, data_handle, data_part, index_rows, index_block, index_handle, metaindex_block, metaindex_handle, table_of, Written}
 use Rattle.sst_cli.proofs.Footers.{length-handle, length-footer_front}
 use Rattle.sst_cli.proofs.Frames.{frame-framed}
 use Rattle.sst_cli.proofs.Rows.{last_key-of_some, rows_of-forms, rows_of-ordered, rows_of-short}
@@ -53,7 +53,7 @@ footer-padded metaindex index =
 
 footer-ends : (blocks index names : List ℕ) (metaindex_at index_at : Handle)
     → blocks ++ (frame_of index ++ (frame_of names ++ footer_of metaindex_at index_at))
-    ≡ before_footer blocks index names ++ (footer_front metaindex_at index_at ++ (replicate (41 - length (footer_front metaindex_at index_at)) 0 ++ footer_back))
+    ≡ before_footer blocks index names ++ (footer_front metaindex_at index_at ++ (replicate (41 - length (footer_front metaindex_at index_at)) 0 ++ footer_back 2))
 unfolding before_footer footer_of
 footer-ends blocks index names metaindex_at index_at =
     let footer = footer_of metaindex_at index_at in
@@ -88,12 +88,37 @@ names-short = omega (arith, block_of-le 1 [])
 names-block : Block Names metaindex_block []
 names-block = block_of_is_block Names 1 [] (omega arith) (All-nil (IsRow Names)) tt names-short
 
-meta-stands : (blocks index : List ℕ) (index_at : Handle)
+-- the files of written lists are far shorter than a reader's limit
+file-short : (blocks index : List ℕ) (metaindex_at index_at : Handle) → length blocks + length index ≤ 2 ^ 31
+    → length (blocks ++ (frame_of index ++ (frame_of metaindex_block ++ footer_of metaindex_at index_at))) < 2 ^ 40
+unfolding footer_of
+file-short blocks index metaindex_at index_at small =
+    let front = footer_front metaindex_at index_at in
+    let zeros : List ℕ = replicate (41 - length front) 0 in
+    omega (
+      arith,
+      small,
+      names-short,
+      length-append blocks (frame_of index ++ (frame_of metaindex_block ++ footer_of metaindex_at index_at)),
+      length-append (frame_of index) (frame_of metaindex_block ++ footer_of metaindex_at index_at),
+      length-append (frame_of metaindex_block) (footer_of metaindex_at index_at),
+      length-frame index,
+      length-frame metaindex_block,
+      length-append front (zeros ++ footer_back 2),
+      length-append zeros (footer_back 2),
+      footer-padded metaindex_at index_at,
+    )
+
+meta-stands : (blocks index : List ℕ) (index_at : Handle) → length blocks + length index ≤ 2 ^ 31
     → Meta (blocks ++ (frame_of index ++ (frame_of metaindex_block ++ footer_of (record { offset = length blocks + length index + 5; size = length metaindex_block }) index_at)))
     (length (before_footer blocks index metaindex_block)) (record { offset = length blocks + length index + 5; size = length metaindex_block }) index_at
-meta-stands blocks index index_at =
+meta-stands blocks index index_at small =
     let at : Handle = record { offset = length blocks + length index + 5; size = length metaindex_block } in
     record {
+      limited = file-short blocks index at index_at small;
+      version = 2;
+      least = omega arith;
+      most = omega arith;
       front = before_footer blocks index metaindex_block;
       padding = replicate (41 - length (footer_front at index_at)) 0;
       ends = footer-ends blocks index metaindex_block at index_at;
@@ -142,8 +167,17 @@ index-runs (e ∷ rest) footer fits =
       framed = data-framed (data_block (e ∷ rest)) (index_block (e ∷ rest)) metaindex_block footer (data-short (e ∷ rest) fits);
       rows = block_of_is_block Entries 16 (rows_of (e ∷ rest)) (omega arith) (rows_of-forms (e ∷ rest) fits.limits) (rows_of-ordered (e ∷ rest) fits.limits fits.ordered) (data-short (e ∷ rest) fits);
       some = omega arith;
-      separates = not-after_itself (last_key [] (rows_of (e ∷ rest)));
+      seqs = All-weaker IsInLimits HasSeq (λ x within. within.seq) (e ∷ rest) fits.limits;
     }
+
+-- the separator of the data block is its last key
+index-separated : (entries : List Entry) → AreSeparated (index_rows entries) entries
+index-separated [] = tt
+index-separated (e ∷ rest) = not-after_itself (last_key [] (rows_of (e ∷ rest)))
+
+part-short : (entries : List Entry) → Fits entries → length (data_part entries) ≤ 2 ^ 29 + 5
+part-short [] fits = omega arith
+part-short (e ∷ rest) fits = omega (arith, length-frame (data_block (e ∷ rest)), data-short (e ∷ rest) fits)
 
 pub table_stands : (entries : List Entry) → Fits entries → BlockBased (table_of entries) entries
 unfolding table_of
@@ -151,16 +185,20 @@ table_stands entries fits =
     let blocks = data_part entries in
     let index = index_block entries in
     let footer = footer_of (metaindex_handle entries) (index_handle entries) in
+    let small : length blocks + length index ≤ 2 ^ 31 = omega (arith, part-short entries fits, index-short entries fits) in
     record {
-      end = length (before_footer blocks index metaindex_block);
-      metaindex = metaindex_handle entries;
-      index = index_handle entries;
-      meta = meta-stands blocks index (index_handle entries);
-      index_block = index;
-      index_rows = index_rows entries;
-      framed = index-framed blocks index metaindex_block footer (index-short entries fits);
-      index_is = index-is entries fits;
-      runs = index-runs entries footer fits;
+      opens = record {
+        end = length (before_footer blocks index metaindex_block);
+        metaindex = metaindex_handle entries;
+        index = index_handle entries;
+        meta = meta-stands blocks index (index_handle entries) small;
+        index_block = index;
+        index_rows = index_rows entries;
+        framed = index-framed blocks index metaindex_block footer (index-short entries fits);
+        index_is = index-is entries fits;
+        runs = index-runs entries footer fits;
+      };
+      separated = index-separated entries;
     }
 
 pub table_is_written : (entries : List Entry) → Fits entries → Written (table_of entries) entries

@@ -4,6 +4,17 @@ ghost use Rattle.sst_cli.specs.Meta.{footer_of, footer_front};
 
 use sst_num::{Handle, Memory, put_fixed32, put_fixed64, put_handle};
 
+/// What the footer of a block-based file says.
+///
+/// RocksDB: `Footer` in table/format.h.
+#[derive(Clone, Copy, Debug, PartialEq, Eq)]
+pub struct Footer {
+    /// Where the metaindex block stands.
+    pub metaindex: Handle,
+    /// Where the index block stands.
+    pub index: Handle,
+}
+
 /// The checksum type of a file whose blocks have a masked CRC32C.
 ///
 /// RocksDB: `kCRC32c` in include/rocksdb/table.h.

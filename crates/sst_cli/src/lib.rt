@@ -68,6 +68,7 @@
 //! block at most, and then added to OUT.
 #![tactic(auto)]
 
+mod bbt_fault;
 mod bbt_writer;
 mod cuts;
 pub mod device;
@@ -75,6 +76,7 @@ mod entry_line;
 mod footer;
 mod laws;
 mod lines;
+mod meta_fault;
 mod produce;
 mod program;
 mod reading;
@@ -82,5 +84,8 @@ mod refusal;
 mod table_parts;
 mod words;
 
+pub use bbt_fault::BbtFault;
+pub use footer::Footer;
 pub use laws::{a_list_reads_back, an_entry_line_reads_back, written_file_stands_for_its_list};
+pub use meta_fault::MetaFault;
 pub use program::{Status, run};

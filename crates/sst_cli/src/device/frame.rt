@@ -2,13 +2,28 @@
 ghost use Rattle.std.specs.Prelude.{◌≡◌, ℕ, ◌+◌, ◌^◌, ◌≤◌, List, ◌++◌, length, OnOk, OnErr};
 ghost use Rattle.sst_cli.specs.Framed.{Framed, frame_of};
 
-use sst_num::{Memory, put_fixed32};
+use sst_num::{Handle, Memory, put_fixed32};
 use sst_sums::{crc32c, mask};
 
 /// The type byte of a block that isn't compressed.
 ///
 /// RocksDB: `kNoCompression` in include/rocksdb/compression_type.h.
 const UNCOMPRESSED: u8 = 0;
+
+/// Why the block at a handle can't be had.
+///
+/// RocksDB: `BlockFetcher` in table/block_fetcher.cc answers `Status::Corruption` or decompresses.
+#[derive(Clone, Copy, Debug, PartialEq, Eq)]
+pub enum FrameFault {
+    /// The block or its trailer passes the end of the file without its footer.
+    OutOfFile(Handle),
+    /// The block has more than 2^29 bytes.
+    TooLarge(Handle),
+    /// The checksum isn't that of the block and its type byte.
+    Checksum(Handle),
+    /// The type byte says that the block is compressed.
+    Compressed(Handle, u8),
+}
 
 /// Appends a block as a file stores it: the block, the type byte 0, and the masked CRC32C over both as a number
 /// of four bytes.
