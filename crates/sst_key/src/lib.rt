@@ -48,14 +48,16 @@ mod calls;
 mod entries;
 mod faults;
 mod keys;
+mod list_machine;
 mod reading;
 mod room;
 #[cfg(test)]
 mod tests;
 
-pub use calls::{Call, Format, Reply, Target};
+pub use calls::{Answer, Call, Format, Reply, Target};
 pub use entries::{Entry, EntryView, Kind};
 pub use faults::WriteFault;
 pub use keys::{cmp_internal, internal_order_is_entry_order, pack};
+pub use list_machine::answer;
 pub use reading::{packed_is_unpacked, unpack};
 pub use room::KeyRoom;
