@@ -1,1 +1,5 @@
 pub mod KeyParts
+pub mod TargetOrder
+pub mod Counting
+pub mod Landings
+pub mod Gets

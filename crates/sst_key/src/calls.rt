@@ -51,3 +51,14 @@ pub enum Format {
     /// CuckooTable.
     Cuckoo,
 }
+
+/// What a call answers over a list of entries.
+#[derive(Clone, Copy, Debug, PartialEq, Eq)]
+pub struct Answer {
+    /// What the call says.
+    pub reply: Reply,
+    /// The number in the list of the entry that is shown, from 0 on.
+    pub shown: Option<usize>,
+    /// The position after the call: the number of an entry, or None where it is nowhere.
+    pub position: Option<usize>,
+}

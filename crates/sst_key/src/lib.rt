@@ -48,14 +48,23 @@ mod calls;
 mod entries;
 mod faults;
 mod keys;
+mod list_laws;
+mod list_machine;
+#[cfg(test)]
+mod list_machine_tests;
 mod reading;
 mod room;
 #[cfg(test)]
 mod tests;
 
-pub use calls::{Call, Format, Reply, Target};
+pub use calls::{Answer, Call, Format, Reply, Target};
 pub use entries::{Entry, EntryView, Kind};
 pub use faults::WriteFault;
 pub use keys::{cmp_internal, internal_order_is_entry_order, pack};
+pub use list_laws::{
+    get_shows_the_newest, seek_for_prev_lands_on_the_last_up_to,
+    seek_lands_on_the_first_not_before, targets_compare_as_said,
+};
+pub use list_machine::answer;
 pub use reading::{packed_is_unpacked, unpack};
 pub use room::KeyRoom;

@@ -1,0 +1,39 @@
+-- What the calls of a table mean, said of the list itself and without a count.
+-- RocksDB: Iterator (Seek, SeekForPrev) and ReadOptions::snapshot in include/rocksdb.
+use Rattle.std.specs.Prelude.{◌≡◌, ◌⊎◌, ℕ, ◌<◌, ◌≤◌, Some, List, slice_get}
+use Rattle.std.specs.Ordering.{nat_cmp}
+use Rattle.std.specs.Cmp.Lexicographic.{slice_cmp}
+use Rattle.std.specs.declared.cmp.Ordering.TheVariants.{Less}
+use Rattle.sst_key.specs.declared.entries.Entry.{Entry}
+
+-- the entry is before the target: its user key is less, or it is the same and the entry is newer
+abbrev pub IsBeforeTarget : List ℕ → ℕ → Entry → Type 0
+IsBeforeTarget user seq e = (slice_cmp nat_cmp e.user user ≡ Less) ⊎ ((e.user ≡ user) × (seq < e.seq))
+
+-- the entry is before the target or at it: its user key is less, or it is the same and the entry isn't older
+abbrev pub IsUpToTarget : List ℕ → ℕ → Entry → Type 0
+IsUpToTarget user seq e = (slice_cmp nat_cmp e.user user ≡ Less) ⊎ ((e.user ≡ user) × (seq ≤ e.seq))
+
+-- the entry is of the user key, and the snapshot sees it
+abbrev pub IsSeen : List ℕ → ℕ → Entry → Type 0
+IsSeen user snapshot e = (e.user ≡ user) × (e.seq ≤ snapshot)
+
+-- at the place stands an entry of which this holds
+abbrev pub StandsAt : (Entry → Type 0) → List Entry → ℕ → Type 0
+StandsAt Is entries i = (e : Entry) × (slice_get entries i ≡ Some e) × Is e
+
+-- it holds of each entry
+abbrev pub Each : (Entry → Type 0) → List Entry → Type 0
+Each Is entries = (j : ℕ) (e : Entry) → slice_get entries j ≡ Some e → Is e
+
+-- it holds of each entry ahead of the place
+abbrev pub EachAhead : (Entry → Type 0) → List Entry → ℕ → Type 0
+EachAhead Is entries i = (j : ℕ) (e : Entry) → j < i → slice_get entries j ≡ Some e → Is e
+
+-- it holds of each entry behind the place
+abbrev pub EachBehind : (Entry → Type 0) → List Entry → ℕ → Type 0
+EachBehind Is entries i = (j : ℕ) (e : Entry) → i < j → slice_get entries j ≡ Some e → Is e
+
+-- the place is the first one where an entry stands of which it holds
+abbrev pub IsFirstPlace : (Entry → Type 0) → List Entry → ℕ → Type 0
+IsFirstPlace Is entries i = StandsAt Is entries i × ((j : ℕ) → StandsAt Is entries j → i ≤ j)

@@ -1,0 +1,50 @@
+ghost use Rattle.std.specs.Prelude.{◌≡◌, ℕ, ◌<◌, ◌≤◌, ◌↔◌, Some, None, List, slice_get, IsTrue};
+ghost use Rattle.sst_key.specs.Entry.{IsOrdered, tag};
+ghost use Rattle.sst_key.specs.ListMachine.{is_before_target, is_up_to_target, seek_of, seek_for_prev_of, get_of, visible};
+ghost use Rattle.sst_key.specs.ListLaws.{IsBeforeTarget, IsUpToTarget, IsSeen, StandsAt, IsFirstPlace, Each, EachAhead, EachBehind};
+ghost use Rattle.sst_key.specs.declared.entries.Entry.{Entry};
+
+/// What stands before a target: the entries of lesser user keys, and of the target's own user key the newer ones.
+///
+/// An entry at the target has its user key and its sequence number. RocksDB: `InternalKeyComparator::Compare` in
+/// db/dbformat.h.
+pub fn targets_compare_as_said()
+    ensures before { (user : List ℕ) (seq : ℕ) (e : Entry) → IsTrue (is_before_target user seq e) ↔ IsBeforeTarget user seq e }
+    ensures up_to { (user : List ℕ) (seq : ℕ) (e : Entry) → IsTrue (is_up_to_target user seq e) ↔ IsUpToTarget user seq e }
+{}
+
+/// Seek lands at the first entry that isn't before the target, and nowhere exactly where every entry is before it.
+///
+/// RocksDB: `Iterator::Seek` in include/rocksdb/iterator.h.
+pub fn seek_lands_on_the_first_not_before()
+    ensures lands { (entries : List Entry) (user : List ℕ) (seq i : ℕ) → IsOrdered entries
+        → (seek_of entries user seq ≡ Some i)
+        ↔ (StandsAt (λ e. IsBeforeTarget user seq e → ⊥) entries i × EachAhead (IsBeforeTarget user seq) entries i) }
+    ensures nowhere { (entries : List Entry) (user : List ℕ) (seq : ℕ) → IsOrdered entries
+        → (seek_of entries user seq ≡ None) ↔ Each (IsBeforeTarget user seq) entries }
+{}
+
+/// SeekForPrev lands at the last entry that is before the target or at it, and nowhere exactly where none is.
+///
+/// RocksDB: `Iterator::SeekForPrev` in include/rocksdb/iterator.h.
+pub fn seek_for_prev_lands_on_the_last_up_to()
+    ensures lands { (entries : List Entry) (user : List ℕ) (seq i : ℕ) → IsOrdered entries
+        → (seek_for_prev_of entries user seq ≡ Some i)
+        ↔ (StandsAt (IsUpToTarget user seq) entries i × EachBehind (λ e. IsUpToTarget user seq e → ⊥) entries i) }
+    ensures nowhere { (entries : List Entry) (user : List ℕ) (seq : ℕ) → IsOrdered entries
+        → (seek_for_prev_of entries user seq ≡ None) ↔ Each (λ e. IsUpToTarget user seq e → ⊥) entries }
+{}
+
+/// Get shows the newest entry of the user key that the snapshot sees, and none exactly where it sees none.
+///
+/// No entry of this user key that the snapshot sees stands before the one that is shown, and none has a greater
+/// tag. RocksDB: `DB::Get` in include/rocksdb/db.h, `ReadOptions::snapshot` in include/rocksdb/options.h.
+pub fn get_shows_the_newest()
+    ensures shows { (entries : List Entry) (user : List ℕ) (snapshot i : ℕ) → IsOrdered entries
+        → (get_of entries user snapshot ≡ Some i) ↔ IsFirstPlace (IsSeen user snapshot) entries i }
+    ensures none { (entries : List Entry) (user : List ℕ) (snapshot : ℕ) → IsOrdered entries
+        → (get_of entries user snapshot ≡ None) ↔ Each (λ e. IsSeen user snapshot e → ⊥) entries }
+    ensures newest { (entries : List Entry) (user : List ℕ) (snapshot i : ℕ) (e : Entry) → IsOrdered entries
+        → get_of entries user snapshot ≡ Some i → slice_get entries i ≡ Some e
+        → Each (λ f. IsSeen user snapshot f → tag f.seq f.kind ≤ tag e.seq e.kind) entries }
+{}

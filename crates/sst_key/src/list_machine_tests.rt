@@ -1,0 +1,180 @@
+use crate::{Answer, Call, Entry, Format, Kind, Reply, Target, answer};
+use sst_num::{Bytes, Memory};
+use std::alloc::Global;
+use std::test::Fail;
+
+fn entry(alloc: Global, user: &[u8], seq: u64) -> Result<Entry, Memory> {
+    Ok(Entry {
+        user: Bytes::from_slice(alloc, user)?,
+        seq,
+        kind: Kind::Value,
+        value: Bytes::new(alloc),
+    })
+}
+
+fn target(alloc: Global, user: &[u8], seq: u64) -> Result<Target, Memory> {
+    Ok(Target {
+        user: Bytes::from_slice(alloc, user)?,
+        seq,
+    })
+}
+
+// A move that lands at an entry.
+fn at(i: usize) -> Answer {
+    Answer {
+        reply: Reply::Shown,
+        shown: Some(i),
+        position: Some(i),
+    }
+}
+
+// Nothing is shown, and the position is this.
+fn nothing(reply: Reply, position: Option<usize>) -> Answer {
+    Answer {
+        reply,
+        shown: None,
+        position,
+    }
+}
+
+// Three entries of one user key, at the sequence numbers 9, 5 and 2.
+#[test]
+fn one_user_key(rt: HostRuntime) -> Result<(), Fail> {
+    let entries = &[
+        entry(rt.alloc(), b"k", 9)?,
+        entry(rt.alloc(), b"k", 5)?,
+        entry(rt.alloc(), b"k", 2)?,
+    ];
+    for (seq, shown) in [
+        (9, Some(0)),
+        (8, Some(1)),
+        (5, Some(1)),
+        (4, Some(2)),
+        (1, None),
+    ] {
+        let get = Call::Get(target(rt.alloc(), b"k", seq)?);
+        assert_eq!(rt;
+            answer(entries, Format::Block, 0, Some(1), &get).shown,
+            shown,
+            "at {seq}"
+        );
+        assert_eq!(rt;
+            answer(entries, Format::Block, 0, Some(1), &get).position,
+            Some(1)
+        );
+    }
+    let back = Call::SeekForPrev(target(rt.alloc(), b"k", 5)?);
+    assert_eq!(rt; answer(entries, Format::Block, 0, None, &back), at(1));
+    let before = Call::SeekForPrev(target(rt.alloc(), b"k", 10)?);
+    assert_eq!(rt;
+        answer(entries, Format::Block, 0, Some(2), &before),
+        nothing(Reply::None, None)
+    );
+    let on = Call::Seek(target(rt.alloc(), b"k", 4)?);
+    assert_eq!(rt; answer(entries, Format::Block, 0, None, &on), at(2));
+    Ok(())
+}
+
+// A key comes before what it begins, and at equal keys the greater sequence number comes first.
+#[test]
+fn past_the_end(rt: HostRuntime) -> Result<(), Fail> {
+    let entries = &[
+        entry(rt.alloc(), b"\xff", 1)?,
+        entry(rt.alloc(), b"\xff\xff", 1)?,
+    ];
+    let past = Call::Seek(target(rt.alloc(), b"\xff\xff", 0)?);
+    assert_eq!(rt;
+        answer(entries, Format::Block, 0, Some(0), &past),
+        nothing(Reply::None, None)
+    );
+    assert_eq!(rt;
+        answer(entries, Format::Block, 0, None, &Call::Prev),
+        nothing(Reply::NotPositioned, None)
+    );
+    assert_eq!(rt; answer(entries, Format::Block, 0, None, &Call::Last), at(1));
+    assert_eq!(rt;
+        answer(entries, Format::Block, 0, Some(1), &Call::Next),
+        nothing(Reply::None, None)
+    );
+    assert_eq!(rt;
+        answer(entries, Format::Block, 0, Some(0), &Call::Prev),
+        nothing(Reply::None, None)
+    );
+    Ok(())
+}
+
+#[test]
+fn no_entries(rt: HostRuntime) -> Result<(), Fail> {
+    let one = &[entry(rt.alloc(), b"k", 9)?];
+    let (entries, _) = one.split_at(0);
+    assert_eq!(rt;
+        answer(entries, Format::Block, 0, None, &Call::First),
+        nothing(Reply::None, None)
+    );
+    assert_eq!(rt;
+        answer(entries, Format::Block, 0, None, &Call::Next),
+        nothing(Reply::NotPositioned, None)
+    );
+    assert_eq!(rt;
+        answer(entries, Format::Block, 0, None, &Call::Last),
+        nothing(Reply::None, None)
+    );
+    assert_eq!(rt;
+        answer(entries, Format::Block, 0, None, &Call::Prev),
+        nothing(Reply::NotPositioned, None)
+    );
+    Ok(())
+}
+
+// What plain and cuckoo tables lack, and a plain table's prefixes of two bytes.
+#[test]
+fn other_formats(rt: HostRuntime) -> Result<(), Fail> {
+    let entries = &[
+        entry(rt.alloc(), b"abX", 0)?,
+        entry(rt.alloc(), b"abY", 0)?,
+        entry(rt.alloc(), b"abZ", 0)?,
+    ];
+    assert_eq!(rt;
+        answer(entries, Format::Plain, 2, None, &Call::First),
+        at(0)
+    );
+    assert_eq!(rt;
+        answer(entries, Format::Plain, 2, Some(0), &Call::Prev),
+        nothing(Reply::Lacks, Some(0))
+    );
+    assert_eq!(rt;
+        answer(entries, Format::Plain, 2, None, &Call::Last),
+        nothing(Reply::Lacks, None)
+    );
+    assert_eq!(rt;
+        answer(entries, Format::Plain, 2, Some(0), &Call::Next),
+        at(1)
+    );
+    let other = Call::Seek(target(rt.alloc(), b"aa", 9)?);
+    assert_eq!(rt;
+        answer(entries, Format::Plain, 2, Some(0), &other),
+        nothing(Reply::None, None)
+    );
+    assert_eq!(rt; answer(entries, Format::Plain, 0, Some(0), &other), at(0));
+    let alike = Call::Seek(target(rt.alloc(), b"abXa", 9)?);
+    assert_eq!(rt; answer(entries, Format::Plain, 2, None, &alike), at(1));
+    let short = Call::Seek(target(rt.alloc(), b"a", 9)?);
+    assert_eq!(rt;
+        answer(entries, Format::Plain, 2, None, &short),
+        nothing(Reply::None, None)
+    );
+    assert_eq!(rt;
+        answer(entries, Format::Cuckoo, 0, None, &Call::Last),
+        at(2)
+    );
+    let back = Call::SeekForPrev(target(rt.alloc(), b"a", 0)?);
+    assert_eq!(rt;
+        answer(entries, Format::Cuckoo, 0, Some(2), &back),
+        nothing(Reply::Lacks, Some(2))
+    );
+    assert_eq!(rt;
+        answer(entries, Format::Cuckoo, 0, Some(2), &Call::Prev),
+        at(1)
+    );
+    Ok(())
+}
