@@ -76,6 +76,7 @@ mod entry_line;
 mod footer;
 mod laws;
 mod lines;
+mod list_search;
 mod meta_fault;
 mod produce;
 mod program;

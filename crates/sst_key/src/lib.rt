@@ -65,6 +65,6 @@ pub use list_laws::{
     get_shows_the_newest, seek_for_prev_lands_on_the_last_up_to,
     seek_lands_on_the_first_not_before, targets_compare_as_said,
 };
-pub use list_machine::answer;
+pub use list_machine::{answer, target_cmp};
 pub use reading::{packed_is_unpacked, unpack};
 pub use room::KeyRoom;

@@ -6,8 +6,11 @@ use crate::calls::{Answer, Call, Format, Reply};
 use crate::entries::Entry;
 use std::cmp::Ordering;
 
-/// How an entry stands to a target: the user keys bytewise, and then the greater sequence number first.
-fn target_cmp(entry: &Entry, user: &[u8], seq: u64) -> Ordering
+/// How an entry stands to a target, a user key and a sequence number: the user keys bytewise, and among equal ones the
+/// greater sequence number first. Takes no memory.
+///
+/// Less says that the entry is before the target; then a Seek to the target passes it.
+pub fn target_cmp(entry: &Entry, user: &[u8], seq: u64) -> Ordering
     ensures { result ≡ machine.target_cmp user.now seq entry.now }
 {
     match entry.user.as_slice().cmp(user) {
