@@ -69,6 +69,7 @@
 #![tactic(auto)]
 
 mod bbt_fault;
+pub mod bbt_reader;
 mod bbt_writer;
 mod cuts;
 pub mod device;

@@ -7,7 +7,7 @@ ghost use Rattle.sst_key.specs.ListMachine as machine;
 use sst_key::{Entry, target_cmp};
 
 /// How many entries are before the target.
-fn below(entries: &[Entry], user: &[u8], seq: u64) -> usize
+pub fn below(entries: &[Entry], user: &[u8], seq: u64) -> usize
     requires { IsOrdered entries.now }
     ensures { result ≡ machine.below entries.now user.now seq }
 {
@@ -15,7 +15,7 @@ fn below(entries: &[Entry], user: &[u8], seq: u64) -> usize
 }
 
 /// How many entries are before the target or at it.
-fn up_to(entries: &[Entry], user: &[u8], seq: u64) -> usize
+pub fn up_to(entries: &[Entry], user: &[u8], seq: u64) -> usize
     requires { IsOrdered entries.now }
     ensures { result ≡ machine.up_to entries.now user.now seq }
 {
