@@ -69,6 +69,7 @@
 #![tactic(auto)]
 
 mod bbt_fault;
+mod answering;
 pub mod bbt_reader;
 mod bbt_writer;
 mod cuts;
