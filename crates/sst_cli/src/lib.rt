@@ -69,9 +69,13 @@
 #![tactic(auto)]
 
 mod bbt_writer;
+pub mod call_line;
+pub mod call_list;
+pub mod call_reading;
 mod cuts;
 pub mod device;
 mod entry_line;
+mod fields;
 mod footer;
 mod laws;
 mod lines;
@@ -79,6 +83,7 @@ mod produce;
 mod program;
 mod reading;
 mod refusal;
+pub mod reply_line;
 mod table_parts;
 mod words;
 
