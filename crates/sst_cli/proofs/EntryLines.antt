@@ -16,7 +16,7 @@ in_range-some n seq e =
     omega (arith, parts.1)
 
 -- a sequence field gives a number in range
-seq_field-some : (field : List ℕ) (seq : ℕ) → seq_field field ≡ Some seq → seq < 2 ^ 56
+pub seq_field-some : (field : List ℕ) (seq : ℕ) → seq_field field ≡ Some seq → seq < 2 ^ 56
 seq_field-some [] seq e = absurd cc
 seq_field-some (c ∷ []) seq e = option_and_then_some in_range (digits_from 0 (c ∷ [])) seq e (λ n _ more. in_range-some n seq more)
 seq_field-some (c ∷ d ∷ rest) seq e =

@@ -18,7 +18,7 @@ use Rattle.sst_cli.specs.Reading.{by_reason, by_entry, read_line, read_from, rea
 use Rattle.sst_cli.specs.Written.{IsInLimits, Fits}
 use Rattle.sst_cli.proofs.FieldBytes.{Avoids, IsStop, hex_text-avoids, decimal-avoids, letter_text-avoids, cut-front}
 use Rattle.sst_cli.proofs.LineRoundTrip.{entry_of_line-entry_line}
-use Rattle.sst_cli.proofs.ReadFrom.{read_from-entry}
+use Rattle.sst_cli.proofs.ReadFrom.{read_from-item, read_from-end}
 use Rattle.sst_cli.proofs.Rows.{ComesAfter, weight-append, IsOrdered-last}
 
 -- ---- the line of an entry has no line end
@@ -113,13 +113,9 @@ read_line-entry_line entries e fits user value =
     let limits = limits-last entries e fits in
     read_line-entry entries (entry_line e) e (length-entry_line e limits) (entry_of_line-entry_line e user value limits.seq) (reason-none entries e fits)
 
-read_from-nil : (number : ℕ) (entries : List Entry) → read_from number entries [] ≡ Ok entries
-unfolding read_from
-read_from-nil number entries = refl
-
 -- the lines of a list after the entries before it
-read_from-lines : (number : ℕ) (before rest : List Entry) → Fits (before ++ rest) → AreBytes rest → read_from number before (lines_text rest) ≡ Ok (before ++ rest)
-read_from-lines number before [] fits are = read_from-nil number before ∙ ap Ok (sym (append-nil before))
+read_from-lines : (number : ℕ) (before rest : List Entry) → Fits (before ++ rest) → AreBytes rest → read_from read_line number before (lines_text rest) ≡ Ok (before ++ rest)
+read_from-lines number before [] fits are = read_from-end read_line number before ∙ ap Ok (sym (append-nil before))
 read_from-lines number before (e ∷ rest) fits are =
     let bytes = All-head (λ (e : Entry). IsBytes e.user × IsBytes e.value) e rest are in
     let more = All-tail (λ (e : Entry). IsBytes e.user × IsBytes e.value) e rest are in
@@ -127,7 +123,7 @@ read_from-lines number before (e ∷ rest) fits are =
     let whole : Fits ((before ++ e ∷ []) ++ rest) = subst Fits (sym same) fits in
     let front = Fits-front (before ++ e ∷ []) rest whole in
     let limits = limits-last before e front in
-    read_from-entry number before (lines_text (e ∷ rest)) (entry_line e) (lines_text rest) e
+    read_from-item read_line number before (lines_text (e ∷ rest)) (entry_line e) (lines_text rest) e
     (entry_line-cut e (lines_text rest) bytes.0 bytes.1 limits.seq) (read_line-entry_line before e front bytes.0 bytes.1)
     ∙ read_from-lines (number + 1) (before ++ e ∷ []) rest whole more
     ∙ ap Ok same

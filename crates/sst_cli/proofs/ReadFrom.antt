@@ -1,15 +1,15 @@
 -- How the text that is still to come is read, line by line.
-use Rattle.std.proofs.Common.{◌≡◌, ℕ, ◌+◌, ◌<◌, ◌≤◌, ◌==◌, Bool, true, false, cond, List, [], ◌∷◌, ◌++◌, length, Option, Some, None, Result, Ok, Err, refl, sym, ap, ◌∙◌, length-append, append_assoc, arith}
+use Rattle.std.proofs.Common.{◌≡◌, ℕ, ◌+◌, ◌<◌, ◌≤◌, ◌==◌, Bool, true, false, cond, List, [], ◌∷◌, ◌++◌, length, Option, Some, None, Result, Ok, Err, refl, sym, ap, ◌∙◌, length-append, arith}
 use Rattle.std.specs.Option.{option_map}
 use Rattle.std.proofs.lemmas.Bool.{le-ltb, lt-ltb}
 use Rattle.std.proofs.lemmas.List.{append-nil}
-use Rattle.sst_key.specs.declared.entries.Entry.{Entry}
 use Rattle.sst_cli.specs.declared.refusal.Reason.{Reason}
 use Rattle.sst_cli.specs.declared.refusal.Reason.TheVariants as why
 use Rattle.sst_cli.specs.declared.refusal.Refusal.{Refusal}
 use Rattle.sst_cli.specs.Texts.{cut}
 use Rattle.sst_cli.specs.Lines.{BeginsLong}
-use Rattle.sst_cli.specs.Reading.{result_match, onto_first, pieces_of, read_line, refused_at, read_last, read_pieces, read_from}
+use Rattle.sst_cli.specs.NextLine.{IsUnended}
+use Rattle.sst_cli.specs.Reading.{result_match, onto_first, pieces_of, refused_at, read_last, read_pieces, read_from}
 use Rattle.sst_cli.proofs.Cut.{cut-parts}
 
 cond_pieces : (t : Bool) (b : ℕ) (pieces : List (List ℕ)) (first : List ℕ) (others : List (List ℕ)) → pieces ≡ first ∷ others
@@ -58,60 +58,66 @@ pieces_of-line text line after found =
     let parts = cut-parts 10 text line after found in
     ap pieces_of parts.0 ∙ pieces_after line (10 ∷ after) [] (pieces_of after) parts.1 refl ∙ ap (λ (l : List ℕ). l ∷ pieces_of after) (append-nil line)
 
+-- what a line says after some items
+abbrev pub Says : Type 0 → Type 0
+Says A = List A → List ℕ → Result A Reason
+
+-- a line past the limit of a line is refused for that, whatever came before
+abbrev pub IsLimited : {A : Type 0} → Says A → Type 0
+IsLimited {A} read = (items : List A) (line : List ℕ) → 40000000 < length line → read items line ≡ Err why.LineLong
+
 -- the next line ends before the text does, and is read by itself
-read_from-step : (number : ℕ) (entries : List Entry) (text line after : List ℕ) → cut 10 text ≡ Some (line, after)
-    → read_from number entries text
-    ≡ result_match (read_line entries line) (λ e. read_from (number + 1) (entries ++ e ∷ []) after) (λ w. Err (refused_at number w))
+read_from-step : {A : Type 0} (read : Says A) (number : ℕ) (items : List A) (text line after : List ℕ) → cut 10 text ≡ Some (line, after)
+    → read_from read number items text
+    ≡ result_match (read items line) (λ x. read_from read (number + 1) (items ++ x ∷ []) after) (λ w. Err (refused_at number w))
 unfolding read_from
-read_from-step number entries text line after found =
+read_from-step {A} read number items text line after found =
     let rest = pieces_some after in
     let pieces = pieces_of-line text line after found ∙ ap (λ (ps : List (List ℕ)). line ∷ ps) rest.1.1 in
-    let more : List (List ℕ) → Result (List Entry) Refusal =
-    λ ps. result_match (read_line entries line) (λ e. read_pieces (number + 1) (entries ++ e ∷ []) ps) (λ w. Err (refused_at number w)) in
-    ap (read_pieces number entries) pieces ∙ ap more (sym rest.1.1)
+    let more : List (List ℕ) → Result (List A) Refusal =
+    λ ps. result_match (read items line) (λ x. read_pieces read (number + 1) (items ++ x ∷ []) ps) (λ w. Err (refused_at number w)) in
+    ap (read_pieces read number items) pieces ∙ ap more (sym rest.1.1)
 
--- the next line is an entry
-pub read_from-entry : (number : ℕ) (entries : List Entry) (text line after : List ℕ) (e : Entry) → cut 10 text ≡ Some (line, after)
-    → read_line entries line ≡ Ok e → read_from number entries text ≡ read_from (number + 1) (entries ++ e ∷ []) after
-read_from-entry number entries text line after e found reads = read_from-step number entries text line after found ∙ rw reads refl
+-- the next line is taken
+pub read_from-item : {A : Type 0} (read : Says A) (number : ℕ) (items : List A) (text line after : List ℕ) (x : A) → cut 10 text ≡ Some (line, after)
+    → read items line ≡ Ok x → read_from read number items text ≡ read_from read (number + 1) (items ++ x ∷ []) after
+read_from-item read number items text line after x found reads = read_from-step read number items text line after found ∙ rw reads refl
 
 -- the next line is refused
-pub read_from-refused : (number : ℕ) (entries : List Entry) (text line after : List ℕ) (w : Reason) → cut 10 text ≡ Some (line, after)
-    → read_line entries line ≡ Err w → read_from number entries text ≡ Err (refused_at number w)
-read_from-refused number entries text line after w found reads = read_from-step number entries text line after found ∙ rw reads refl
+pub read_from-refused : {A : Type 0} (read : Says A) (number : ℕ) (items : List A) (text line after : List ℕ) (w : Reason) → cut 10 text ≡ Some (line, after)
+    → read items line ≡ Err w → read_from read number items text ≡ Err (refused_at number w)
+read_from-refused read number items text line after w found reads = read_from-step read number items text line after found ∙ rw reads refl
 
 -- a first piece past the limit of a line, whatever follows
-read_pieces-long : (number : ℕ) (entries : List Entry) (first : List ℕ) (others : List (List ℕ)) → 40000000 < length first
-    → read_pieces number entries (first ∷ others) ≡ Err (refused_at number why.LineLong)
-unfolding read_line
-read_pieces-long number entries [] others long = absurd (omega arith)
-read_pieces-long number entries (b ∷ first) [] long = rw (lt-ltb 40000000 (length (b ∷ first)) long) refl
-read_pieces-long number entries (b ∷ first) (next ∷ rest) long = rw (lt-ltb 40000000 (length (b ∷ first)) long) refl
+read_pieces-long : {A : Type 0} (read : Says A) → IsLimited read → (number : ℕ) (items : List A) (first : List ℕ) (others : List (List ℕ)) → 40000000 < length first
+    → read_pieces read number items (first ∷ others) ≡ Err (refused_at number why.LineLong)
+read_pieces-long read limited number items [] [] long = absurd (omega arith)
+read_pieces-long read limited number items (b ∷ first) [] long = rw (lt-ltb 40000000 (length (b ∷ first)) long) refl
+read_pieces-long read limited number items first (next ∷ rest) long = rw (limited items first long) refl
 
-pub read_from-long : (number : ℕ) (entries : List Entry) (bytes rest : List ℕ) → BeginsLong bytes
-    → read_from number entries (bytes ++ rest) ≡ Err (refused_at number why.LineLong)
+pub read_from-long : {A : Type 0} (read : Says A) → IsLimited read → (number : ℕ) (items : List A) (text : List ℕ) → BeginsLong text
+    → read_from read number items text ≡ Err (refused_at number why.LineLong)
 unfolding read_from
-read_from-long number entries bytes rest long =
-    let after = pieces_some (long.rest ++ rest) in
-    let parted : bytes ++ rest ≡ long.front ++ (long.rest ++ rest) = ap (λ (b : List ℕ). b ++ rest) long.parts ∙ append_assoc long.front long.rest rest in
-    let pieces = ap pieces_of parted ∙ pieces_after long.front (long.rest ++ rest) after.0 after.1.0 long.none after.1.1 in
+read_from-long read limited number items text long =
+    let after = pieces_some long.rest in
+    let pieces = ap pieces_of long.parts ∙ pieces_after long.front long.rest after.0 after.1.0 long.none after.1.1 in
     let past : 40000000 < length (long.front ++ after.0) = let sum = length-append long.front after.0 in let many = long.long in omega arith in
-    ap (read_pieces number entries) pieces ∙ read_pieces-long number entries (long.front ++ after.0) after.1.0 past
+    ap (read_pieces read number items) pieces ∙ read_pieces-long read limited number items (long.front ++ after.0) after.1.0 past
 
-read_last-unended : (number : ℕ) (entries : List Entry) (bytes : List ℕ) → 0 < length bytes → length bytes ≤ 40000000
-    → read_last number entries bytes ≡ Err (refused_at number why.Line)
-read_last-unended number entries [] some short = absurd (omega arith)
-read_last-unended number entries (b ∷ rest) some short = rw (le-ltb 40000000 (length (b ∷ rest)) short) refl
+read_last-unended : {A : Type 0} (number : ℕ) (items : List A) (text : List ℕ) → 0 < length text → length text ≤ 40000000
+    → read_last number items text ≡ Err (refused_at number why.Line)
+read_last-unended number items [] some short = absurd (omega arith)
+read_last-unended number items (b ∷ rest) some short = rw (le-ltb 40000000 (length (b ∷ rest)) short) refl
 
 -- some bytes without a line end, and nothing after them
-pub read_from-unended : (number : ℕ) (entries : List Entry) (bytes : List ℕ) → 0 < length bytes → length bytes ≤ 40000000 → cut 10 bytes ≡ None
-    → read_from number entries bytes ≡ Err (refused_at number why.Line)
+pub read_from-unended : {A : Type 0} (read : Says A) (number : ℕ) (items : List A) (text : List ℕ) → IsUnended text
+    → read_from read number items text ≡ Err (refused_at number why.Line)
 unfolding read_from
-read_from-unended number entries bytes some short none =
-    let whole = ap pieces_of (sym (append-nil bytes)) ∙ pieces_after bytes [] [] [] none refl ∙ ap (λ (b : List ℕ). b ∷ []) (append-nil bytes) in
-    ap (read_pieces number entries) whole ∙ read_last-unended number entries bytes some short
+read_from-unended read number items text unended =
+    let whole = ap pieces_of (sym (append-nil text)) ∙ pieces_after text [] [] [] unended.none refl ∙ ap (λ (b : List ℕ). b ∷ []) (append-nil text) in
+    ap (read_pieces read number items) whole ∙ read_last-unended number items text unended.some unended.short
 
 -- nothing more
-pub read_from-end : (number : ℕ) (entries : List Entry) → read_from number entries [] ≡ Ok entries
+pub read_from-end : {A : Type 0} (read : Says A) (number : ℕ) (items : List A) → read_from read number items [] ≡ Ok items
 unfolding read_from
-read_from-end number entries = refl
+read_from-end read number items = refl

@@ -41,7 +41,7 @@ entry_added entries bytes line e seen writer old new piece reads same good put a
 -- an entry that the writer refused
 pub entry_refused : (entries : List Entry) (line : List ℕ) (e seen : Entry) (fault : WriteFault) (number : ℕ) (answer : InputStop) (refusal : Refusal)
     → read_line entries line ≡ by_entry entries (Some e) → seen ≡ e → reason entries seen ≡ Some fault
-    → answer ≡ stop.Refused (refused_at number (why.Refused fault)) → answer ≡ stop.Refused refusal → IsRefused entries line number refusal
+    → answer ≡ stop.Refused (refused_at number (why.Refused fault)) → answer ≡ stop.Refused refusal → IsRefused (read_line entries line) number refusal
 entry_refused entries line e seen fault number answer refusal reads same given said is =
     let given_e : reason entries e ≡ Some fault = ap (reason entries) (sym same) ∙ given in
     record { why = why.Refused fault; reads = reads ∙ ap (by_reason e) given_e; said = cc }
@@ -49,15 +49,15 @@ entry_refused entries line e seen fault number answer refusal reads same given s
 -- a line that isn't an entry line
 pub line_refused : (entries : List Entry) (line : List ℕ) (number : ℕ) (answer : InputStop) (refusal : Refusal)
     → length line ≤ 40000000 → entry_of_line line ≡ None
-    → answer ≡ stop.Refused (refused_at number why.Line) → answer ≡ stop.Refused refusal → IsRefused entries line number refusal
+    → answer ≡ stop.Refused (refused_at number why.Line) → answer ≡ stop.Refused refusal → IsRefused (read_line entries line) number refusal
 line_refused entries line number answer refusal short none said is =
     record { why = why.Line; reads = read_line-short entries line short ∙ ap (by_entry entries) none; said = cc }
 
 -- the stop of an answer
-pub given_answer : (answer given : InputStop) → ◌≡◌ {A = Result (Unit {0}) InputStop} (Err answer) (Err given) → answer ≡ given
+pub given_answer : {T : Type 0} (answer given : InputStop) → ◌≡◌ {A = Result T InputStop} (Err answer) (Err given) → answer ≡ given
 given_answer answer given is = cc
 
 -- the stop that a call passed on
-pub passed_answer : (result : Result (Unit {0}) InputStop) (passed came given : InputStop) → result ≡ Err passed → passed ≡ came → result ≡ Err given → came ≡ given
-passed_answer result passed came given is same told =
-    let both : ◌≡◌ {A = Result (Unit {0}) InputStop} (Err passed) (Err given) = sym is ∙ told in sym same ∙ given_answer passed given both
+pub passed_answer : {T : Type 0} (result : Result T InputStop) (passed came given : InputStop) → result ≡ Err passed → passed ≡ came → result ≡ Err given → came ≡ given
+passed_answer {T} result passed came given is same told =
+    let both : ◌≡◌ {A = Result T InputStop} (Err passed) (Err given) = sym is ∙ told in sym same ∙ given_answer passed given both

@@ -1,11 +1,14 @@
--- What the input of a `write` says: the entries of its lines, or the first line that is refused and why.
-use Rattle.std.specs.Prelude.{ℕ, ◌+◌, nat_lt, ◌==◌, if◌then◌else◌, List, [], ◌∷◌, ◌++◌, length, Option, Some, None, Result, Ok, Err}
+-- What an input says: what stands in each of its lines, or the first line that is refused and why. The input of a
+-- `write` has entry lines, that of `calls` has call lines. These texts are this project's own.
+use Rattle.std.specs.Prelude.{ℕ, ◌+◌, nat_lt, nat_le, ◌==◌, if◌then◌else◌, List, [], ◌∷◌, ◌++◌, length, Option, Some, None, Result, Ok, Err}
+use Rattle.sst_key.specs.declared.calls.Call.{Call}
 use Rattle.sst_key.specs.declared.entries.Entry.{Entry}
 use Rattle.sst_key.specs.declared.faults.WriteFault.{WriteFault}
 use Rattle.sst_cli.specs.declared.refusal.Reason.{Reason}
-use Rattle.sst_cli.specs.declared.refusal.Reason.TheVariants.{LineLong, Line, Refused}
+use Rattle.sst_cli.specs.declared.refusal.Reason.TheVariants.{LineLong, Line, Refused, Many}
 use Rattle.sst_cli.specs.declared.refusal.Refusal.{Refusal}
 use Rattle.sst_cli.specs.Texts.{entry_of_line}
+use Rattle.sst_cli.specs.CallText.{call_of_line}
 use Rattle.sst_cli.specs.Reasons.{reason}
 
 -- one of two answers, by a result
@@ -23,6 +26,28 @@ abbrev pub pieces_of : List ℕ → List (List ℕ)
 pieces_of [] = [] ∷ []
 pieces_of (b ∷ text) = if b == 10 then [] ∷ pieces_of text else onto_first b (pieces_of text)
 
+-- the refusal of a line, whose number counts from 1
+abbrev pub refused_at : ℕ → Reason → Refusal
+refused_at number why = record { line = number; reason = why }
+
+-- what follows the last line end says: nothing, or a line without its end
+abbrev pub read_last : {A : Type 0} → ℕ → List A → List ℕ → Result (List A) Refusal
+read_last number items [] = Ok items
+read_last number items (b ∷ rest) =
+    if nat_lt 40000000 (length (b ∷ rest)) then Err (refused_at number LineLong) else Err (refused_at number Line)
+
+-- what the pieces of a text say, where `read` tells what a line says after the items before it: those items and
+-- those of the lines, or the first refusal
+abbrev pub read_pieces : {A : Type 0} → (List A → List ℕ → Result A Reason) → ℕ → List A → List (List ℕ) → Result (List A) Refusal
+read_pieces read number items [] = Ok items
+read_pieces read number items (last ∷ []) = read_last number items last
+read_pieces read number items (line ∷ next ∷ rest) =
+    result_match (read items line) (λ x. read_pieces read (number + 1) (items ++ x ∷ []) (next ∷ rest)) (λ why. Err (refused_at number why))
+
+-- what a text says after these items, whose first line has this number
+unfoldable pub read_from : {A : Type 0} → (List A → List ℕ → Result A Reason) → ℕ → List A → List ℕ → Result (List A) Refusal
+read_from read number items text = read_pieces read number items (pieces_of text)
+
 -- the entry of a line, if there is no reason to refuse it after these entries
 abbrev pub by_reason : Entry → Option WriteFault → Result Entry Reason
 by_reason e None = Ok e
@@ -32,31 +57,23 @@ abbrev pub by_entry : List Entry → Option Entry → Result Entry Reason
 by_entry entries None = Err Line
 by_entry entries (Some e) = by_reason e (reason entries e)
 
--- what a line says after these entries: its entry, or the first reason to refuse it
+-- what an entry line says after these entries: its entry, or the first reason to refuse it
 unfoldable pub read_line : List Entry → List ℕ → Result Entry Reason
 read_line entries line = if nat_lt 40000000 (length line) then Err LineLong else by_entry entries (entry_of_line line)
 
--- the refusal of a line, whose number counts from 1
-abbrev pub refused_at : ℕ → Reason → Refusal
-refused_at number why = record { line = number; reason = why }
-
--- what follows the last line end says: nothing, or a line without its end
-abbrev pub read_last : ℕ → List Entry → List ℕ → Result (List Entry) Refusal
-read_last number entries [] = Ok entries
-read_last number entries (b ∷ rest) =
-    if nat_lt 40000000 (length (b ∷ rest)) then Err (refused_at number LineLong) else Err (refused_at number Line)
-
--- what the pieces of a text say: the entries before them and those of their lines, or the first refusal
-abbrev pub read_pieces : ℕ → List Entry → List (List ℕ) → Result (List Entry) Refusal
-read_pieces number entries [] = Ok entries
-read_pieces number entries (last ∷ []) = read_last number entries last
-read_pieces number entries (line ∷ next ∷ rest) =
-    result_match (read_line entries line) (λ e. read_pieces (number + 1) (entries ++ e ∷ []) (next ∷ rest)) (λ why. Err (refused_at number why))
-
--- what a text says after these entries, whose first line has this number
-unfoldable pub read_from : ℕ → List Entry → List ℕ → Result (List Entry) Refusal
-read_from number entries text = read_pieces number entries (pieces_of text)
-
--- what the whole input says
+-- what the whole input of a `write` says
 abbrev pub read_input : List ℕ → Result (List Entry) Refusal
-read_input text = read_from 1 [] text
+read_input text = read_from read_line 1 [] text
+
+-- the call of a line, if fewer than 1,048,576 calls came before it
+abbrev pub by_call : List Call → Option Call → Result Call Reason
+by_call calls None = Err Line
+by_call calls (Some call) = if nat_le 1048576 (length calls) then Err Many else Ok call
+
+-- what a call line says after these calls: its call, or the first reason to refuse it
+unfoldable pub read_call : List Call → List ℕ → Result Call Reason
+read_call calls line = if nat_lt 40000000 (length line) then Err LineLong else by_call calls (call_of_line line)
+
+-- what the whole input of `calls` says
+abbrev pub read_calls : List ℕ → Result (List Call) Refusal
+read_calls text = read_from read_call 1 [] text

@@ -1,5 +1,5 @@
--- What adding the lines of an input to a writer comes to.
-use Rattle.std.specs.Prelude.{◌≡◌, ℕ, List, [], ◌∷◌, ◌++◌, Option, Some, Ok, Err}
+-- What reading the lines of an input comes to, and adding them to a writer.
+use Rattle.std.specs.Prelude.{◌≡◌, ℕ, List, [], ◌∷◌, ◌++◌, Option, Some, Result, Ok, Err}
 use Rattle.sst_key.specs.declared.entries.Entry.{Entry}
 use Rattle.sst_cli.specs.declared.refusal.Refusal.{Refusal}
 use Rattle.sst_cli.specs.declared.refusal.Reason.{Reason}
@@ -15,10 +15,10 @@ pub record HasAdded (entries : List Entry) (bytes line : List ℕ) (writer : Bbt
   pub put : new ≡ old ++ piece
   pub after : After writer (entries ++ entry ∷ []) (bytes ++ piece)
 
--- the line is refused, for this reason
-pub record IsRefused (entries : List Entry) (line : List ℕ) (number : ℕ) (refusal : Refusal) : Type 0 where
+-- what the line of this number says is a reason to refuse it, and this is its refusal
+pub record IsRefused {A : Type 0} (answer : Result A Reason) (number : ℕ) (refusal : Refusal) : Type 0 where
   pub why : Reason
-  pub reads : read_line entries line ≡ Err why
+  pub reads : answer ≡ Err why
   pub said : refusal ≡ refused_at number why
 
 -- the writer took the entries of the whole input, which is read to its end, and appended these bytes

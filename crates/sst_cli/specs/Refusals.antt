@@ -4,7 +4,7 @@ use Rattle.std.specs.Fmt.{decimal}
 use Rattle.sst_key.specs.declared.faults.WriteFault.{WriteFault}
 use Rattle.sst_key.specs.declared.faults.WriteFault.TheVariants.{NotIncreasing, KeyLong, ValueLong, Heavy, ExternalShape, KeySize, ShortKey}
 use Rattle.sst_cli.specs.declared.refusal.Reason.{Reason}
-use Rattle.sst_cli.specs.declared.refusal.Reason.TheVariants.{LineLong, Line, Refused}
+use Rattle.sst_cli.specs.declared.refusal.Reason.TheVariants.{LineLong, Line, Refused, Many}
 use Rattle.sst_cli.specs.declared.refusal.Refusal.{Refusal}
 
 -- the name of a reason that a writer gives
@@ -22,6 +22,7 @@ abbrev pub reason_text : Reason → List ℕ
 reason_text LineLong = codes "line-long"
 reason_text Line = codes "line"
 reason_text (Refused fault) = fault_text fault
+reason_text Many = codes "many"
 
 -- the line that is printed for a refusal
 abbrev pub refusal_text : Refusal → List ℕ

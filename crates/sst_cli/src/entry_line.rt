@@ -1,14 +1,14 @@
 //! The entry of a line, `USER SEQ KIND VALUE`. The fields and the letters are this project's own.
-ghost use Rattle.std.specs.Prelude.{◌≡◌, ℕ, ◌<◌, ◌^◌, List, Option, Some, None, option_and_then, IfOk, MatchOption};
+ghost use Rattle.std.specs.Prelude.{◌≡◌, IfOk};
 ghost use Rattle.std.specs.Option.{option_map};
 ghost use Rattle.sst_key.specs.declared.entries.Entry as entry;
 ghost use Rattle.sst_cli.specs.Texts as texts;
 ghost use Rattle.sst_cli.specs.LineFields.{seen};
 
 use crate::cuts::cut;
-use hex::FromHexError;
+use crate::fields::{bytes_field, seq_field};
 use sst_key::{Entry, Kind};
-use sst_num::{Bytes, Memory};
+use sst_num::Memory;
 use std::alloc::Global;
 
 /// The fields of an entry line, the keys and values still in hex digits.
@@ -43,37 +43,6 @@ fn kind_field(field: &[u8]) -> Option<Kind>
     }
 }
 
-/// The number that some decimal digits spell, where it is a sequence number.
-fn digits(field: &[u8]) -> Option<u64>
-    ensures { result ≡ option_and_then texts.in_range (texts.digits_from 0 field.now) }
-{
-    let mut value = 0;
-    for c in field {
-        if value >= SEQ_END {
-            return None;
-        }
-        if !c.is_ascii_digit() {
-            return None;
-        }
-        value = value * 10 + u64::from(*c - b'0');
-    }
-    if value < SEQ_END { Some(value) } else { None }
-}
-
-/// The sequence number of a field.
-fn seq_field(field: &[u8]) -> Option<u64>
-    ensures { result ≡ texts.seq_field field.now }
-{
-    match field {
-        [] => None,
-        [b'0', _, ..] => None,
-        _ => digits(field),
-    }
-}
-
-/// The first number past the sequence numbers.
-const SEQ_END: u64 = 1 << 56;
-
 /// The fields of a line without its line end.
 #[tactic(auto, unfolding(crate::specs::Texts::fields_of))]
 fn fields_of(line: &[u8]) -> Option<Fields<'_>>
@@ -90,25 +59,6 @@ fn fields_of(line: &[u8]) -> Option<Fields<'_>>
         kind,
         value,
     })
-}
-
-/// The bytes of a field, where it is hex digits or a dash.
-fn bytes_field(alloc: Global, field: &[u8]) -> Result<Option<Bytes>, Memory>
-    ensures { IfOk result (λ bytes. bytes ≡ texts.bytes_field field.now) }
-{
-    match field {
-        [] => Ok(None),
-        [c] => Ok(if *c == b'-' {
-            Some(Bytes::new(alloc))
-        } else {
-            None
-        }),
-        _ => match hex::decode(alloc, field) {
-            Ok(bytes) => Ok(Some(Bytes::from(bytes))),
-            Err(FromHexError::OutOfMemory) => Err(Memory),
-            Err(_) => Ok(None),
-        },
-    }
 }
 
 /// The entry of four fields.

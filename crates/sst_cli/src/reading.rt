@@ -2,11 +2,13 @@
 //!
 //! Of the input no more than one line and the piece around it is held at a time. The line's number is one
 //! more than the count of the writer.
-ghost use Rattle.std.specs.Prelude.{◌≡◌, ◌≢◌, ℕ, ◌<◌, ◌≤◌, ◌^◌, List, [], length, Some, Ok, Err, OnOk};
+ghost use Rattle.std.specs.Prelude.{◌≡◌, ◌≢◌, ℕ, ◌<◌, ◌≤◌, ◌^◌, List, [], length, Some, Ok, Err, IfOk, OnOk};
+ghost use Rattle.std.specs.Io.KnownBytes.{prepend_known};
 ghost use Rattle.sst_key.specs.declared.entries.Entry.{Entry};
 ghost use Rattle.sst_cli.specs.After.{After};
 ghost use Rattle.sst_cli.specs.Reading as reading;
 ghost use Rattle.sst_cli.specs.Reading.{refused_at};
+ghost use Rattle.sst_cli.specs.NextLine.{IsNext, HasNoLine};
 ghost use Rattle.sst_cli.specs.ReadingResult.{HasAdded, IsRefused, HoldsInput};
 ghost use Rattle.sst_cli.specs.Faults.{Rose};
 ghost use Rattle.sst_cli.specs.declared.refusal.Refusal.{Refusal};
@@ -55,6 +57,28 @@ pub fn refused(line: u64, reason: Reason) -> InputStop
     InputStop::Refused(Refusal { line, reason })
 }
 
+/// Reads on to the end of the next line, which has this number, and answers how many bytes stand before its end:
+/// None where the input has ended.
+pub fn next_line<I: Intake>(
+    lines: &mut LineReader,
+    input: &mut I,
+    number: u64,
+) -> Result<Option<usize>, InputStop>
+    ensures told { IfOk result (λ _. prepend_known lines.old (I.left input.old) ≡ prepend_known lines.new (I.left input.new)) }
+    ensures next { IfOk result (λ next. IsNext next lines.new (I.left input.new)) }
+    ensures refused { (refusal : Refusal) → result ≡ Err (InputStop.Refused refusal)
+        → (text : List ℕ) → prepend_known lines.old (I.left input.old) ≡ Some text → HasNoLine number text refusal }
+    ensures failed { result ≡ Err (InputStop.Device DevStop.Failed) → Rose (I.faults input.old) (I.faults input.new) }
+    ensures counts { I.faults input.old ≤ I.faults input.new }
+{
+    match lines.read_line(input)? {
+        Found::Line(n) => Ok(Some(n)),
+        Found::End => Ok(None),
+        Found::Long => Err(refused(number, Reason::LineLong)),
+        Found::Unended => Err(refused(number, Reason::Line)),
+    }
+}
+
 /// Adds an entry, which stands in the line of this number, to the writer.
 fn add_entry(
     writer: &mut BbtWriter,
@@ -70,7 +94,7 @@ fn add_entry(
     ensures refused { (refusal : Refusal) → result ≡ Err (InputStop.Refused refusal)
         → (entries : List Entry) (bytes line : List ℕ) → After writer.old entries bytes
         → reading.read_line entries line ≡ reading.by_entry entries (Some entry.now)
-        → IsRefused entries line number refusal }
+        → IsRefused (reading.read_line entries line) number refusal }
     ensures failed { result ≢ Err (InputStop.Device DevStop.Failed) }
 {
     let view = EntryView {
@@ -100,7 +124,7 @@ pub fn add_line(
         → HasAdded entries bytes line.now writer.new file.old.items file.new.items) }
     ensures refused { (refusal : Refusal) → result ≡ Err (InputStop.Refused refusal)
         → (entries : List Entry) (bytes : List ℕ) → After writer.old entries bytes
-        → IsRefused entries line.now number refusal }
+        → IsRefused (reading.read_line entries line.now) number refusal }
     ensures failed { result ≢ Err (InputStop.Device DevStop.Failed) }
 {
     match entry_of_line(alloc, line)? {
@@ -128,16 +152,13 @@ pub fn add_lines<I: Intake>(
 {
     let mut lines = LineReader::new(alloc);
     loop {
-        let found = lines.read_line(input)?;
-        match found {
-            Found::End => return Ok(()),
-            Found::Line(n) => {
-                let number = writer.count() + 1;
+        let number = writer.count() + 1;
+        match next_line(&mut lines, input, number)? {
+            None => return Ok(()),
+            Some(n) => {
                 add_line(alloc, writer, lines.front(n), number, file)?;
                 lines.pass(n);
             }
-            Found::Long => return Err(refused(writer.count() + 1, Reason::LineLong)),
-            Found::Unended => return Err(refused(writer.count() + 1, Reason::Line)),
         }
     }
 }

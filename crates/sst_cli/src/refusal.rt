@@ -14,10 +14,12 @@ use std::fmt;
 pub enum Reason {
     /// The line has more than 40,000,000 bytes before its line end.
     LineLong,
-    /// The line isn't an entry line, or has no line end.
+    /// The line isn't an entry line, or a call line where calls are read; or it has no line end.
     Line,
     /// The writer refuses the entry of the line.
     Refused(WriteFault),
+    /// The line is a call line, and 1,048,576 call lines stand before it.
+    Many,
 }
 
 /// A refusal of the input of a command: the first line that is refused, and why.
@@ -37,6 +39,7 @@ impl fmt::Display for Reason {
             Reason::LineLong => "line-long",
             Reason::Line => "line",
             Reason::Refused(fault) => fault_name(*fault),
+            Reason::Many => "many",
         })
     }
 }

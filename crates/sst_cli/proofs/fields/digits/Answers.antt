@@ -1,6 +1,6 @@
 use Rattle.std.proofs.Common.{drop, sym, ◌∙◌, arith}
 use Rattle.sst_cli.proofs.Digits.{digits-past}
-use Rattle.sst_cli.proofs.entry_line.digits.Goals as goal
+use Rattle.sst_cli.proofs.fields.digits.Goals as goal
 
 pub returns-then-value-ge-SEQ_END : goal.returns-then-value-ge-SEQ_END
 returns-then-value-ge-SEQ_END c =

@@ -1,0 +1,18 @@
+-- What the loop over the lines of an input of calls keeps.
+use Rattle.std.proofs.Common.{ℕ, ◌≤◌, List, [], ◌∷◌, ◌++◌, length, Option}
+use Rattle.std.proofs.lemmas.List.Elements.{All-push}
+use Rattle.sst_key.specs.declared.calls.Call.{Call}
+use Rattle.sst_cli.specs.CallText.{IsInLimits, AreInLimits}
+use Rattle.sst_cli.specs.Reading.{read_call}
+use Rattle.sst_cli.proofs.ReadingOn.{IsReadTo}
+
+-- the calls so far were read, and reading the whole input is reading on after them
+pub record ReadingCalls (start left : Option (List ℕ)) (calls : List Call) (before faults : ℕ) : Type 0 where
+  pub said : IsReadTo read_call calls start left
+  pub limits : AreInLimits calls
+  pub few : length calls ≤ 1048576
+  pub counts : before ≤ faults
+
+-- one call more in its limits
+pub AreInLimits-push : (calls : List Call) (call : Call) → AreInLimits calls → IsInLimits call → AreInLimits (calls ++ call ∷ [])
+AreInLimits-push calls call are is = All-push IsInLimits calls call are is
