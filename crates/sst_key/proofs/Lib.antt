@@ -3,3 +3,4 @@ pub mod TargetOrder
 pub mod Counting
 pub mod Landings
 pub mod Gets
+pub mod Walks

@@ -62,7 +62,7 @@ pub use entries::{Entry, EntryView, Kind};
 pub use faults::WriteFault;
 pub use keys::{cmp_internal, internal_order_is_entry_order, pack};
 pub use list_laws::{
-    get_shows_the_newest, seek_for_prev_lands_on_the_last_up_to,
+    first_and_next_go_through, get_shows_the_newest, seek_for_prev_lands_on_the_last_up_to,
     seek_lands_on_the_first_not_before, targets_compare_as_said,
 };
 pub use list_machine::answer;
