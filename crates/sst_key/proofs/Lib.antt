@@ -4,3 +4,4 @@ pub mod Counting
 pub mod Landings
 pub mod Gets
 pub mod Walks
+pub mod Snapshots
