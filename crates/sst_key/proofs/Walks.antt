@@ -1,13 +1,13 @@
 -- Rows of calls: what a walk through a whole list answers.
-use Rattle.std.proofs.Common.{◌≡◌, ℕ, zero, suc, ◌+◌, ◌<◌, ◌≤◌, Option, Some, None, List, [], ◌∷◌, ◌++◌, length, map, replicate, refl, sym, ap, subst, ◌∙◌, arith}
+use Rattle.std.proofs.Common.{◌≡◌, ℕ, zero, suc, ◌+◌, Option, Some, None, List, [], ◌∷◌, ◌++◌, length, map, replicate, refl, ap, ◌∙◌, arith}
 use Rattle.std.specs.List.{range_with_len}
 use Rattle.sst_key.specs.declared.entries.Entry.{Entry}
 use Rattle.sst_key.specs.declared.calls.Call.{Call}
-use Rattle.sst_key.specs.declared.calls.Call.TheVariants.{First, Last, Next, Prev}
+use Rattle.sst_key.specs.declared.calls.Call.TheVariants.{First, Next}
 use Rattle.sst_key.specs.declared.calls.Format.{Format}
 use Rattle.sst_key.specs.declared.calls.Format.TheVariants.{Block, Plain, Cuckoo}
 use Rattle.sst_key.specs.declared.calls.Answer.{Answer}
-use Rattle.sst_key.specs.ListMachine.{place_in, next_of, lands, steps_on, answer_of, replies_from}
+use Rattle.sst_key.specs.ListMachine.{place_in, lands, answer_of, replies_from}
 use Rattle.sst_key.proofs.Landings.{in-place, in-no_place}
 
 -- no format lacks First or Next
