@@ -1,9 +1,9 @@
 -- Where Seek, SeekForPrev and Get land in an ordered list, without a count.
-use Rattle.std.proofs.Common.{◌≡◌, ◌⊎◌, ℕ, zero, suc, ◌+◌, ◌<◌, ◌≤◌, ◌↔◌, Bool, true, false, Option, Some, None, List, [], ◌∷◌, length, slice_get, nat_lt, refl, sym, ap, ◌∙◌, inl, inr, arith}
-use Rattle.std.proofs.lemmas.Bool.{cases_lt, ltb-true, lt-ltb, le-ltb, ltb-false}
-use Rattle.std.proofs.lemmas.Option.{same_Some, slice_get_within, cond_some}
+use Rattle.std.proofs.Common.{◌≡◌, ◌⊎◌, ℕ, zero, suc, ◌<◌, ◌≤◌, Bool, true, false, Some, None, List, length, slice_get, refl, sym, ap, ◌∙◌, inl, inr, arith}
+use Rattle.std.proofs.lemmas.Bool.{cases_lt, lt-ltb, le-ltb}
+use Rattle.std.proofs.lemmas.Option.{same_Some, slice_get_within}
 use Rattle.sst_key.specs.declared.entries.Entry.{Entry}
-use Rattle.sst_key.specs.Entry.{IsBefore, IsOrdered}
+use Rattle.sst_key.specs.Entry.{IsOrdered}
 use Rattle.sst_key.specs.ListMachine.{is_before_target, is_up_to_target, below, up_to, place_in, place_before, seek_of, seek_for_prev_of}
 use Rattle.sst_key.specs.ListLaws.{IsBeforeTarget, IsUpToTarget, StandsAt, Each, EachAhead, EachBehind}
 use Rattle.sst_key.proofs.Counting.{Runs, runs, passes-ahead, fails-behind, ahead-from_pass, behind-from_fail, stands, count-in_length}

@@ -3,3 +3,5 @@ pub mod TargetOrder
 pub mod Counting
 pub mod Landings
 pub mod Gets
+pub mod Walks
+pub mod Snapshots

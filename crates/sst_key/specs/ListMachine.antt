@@ -1,7 +1,7 @@
 -- What the seven calls of a table answer over the list of its entries: a machine that has a position, and no file.
 -- RocksDB: DB::Get and Iterator (Valid, SeekToFirst, SeekToLast, Seek, SeekForPrev, Next, Prev) in include/rocksdb;
 -- table/plain/plain_table_reader.cc and table/cuckoo/cuckoo_table_reader.cc for what these formats lack.
-use Rattle.std.specs.Prelude.{ℕ, zero, suc, ◌+◌, Bool, true, false, not, ◌&&◌, if◌then◌else◌, nat_eq, nat_lt, nat_le, bytes_eq, Option, Some, None, List, [], ◌∷◌, length, take, filter, count_by, slice_get}
+use Rattle.std.specs.Prelude.{ℕ, zero, suc, ◌+◌, Bool, true, false, not, if◌then◌else◌, nat_eq, nat_lt, nat_le, bytes_eq, Option, Some, None, List, [], ◌∷◌, length, take, filter, count_by, slice_get}
 use Rattle.std.specs.List.{starts_with}
 use Rattle.std.specs.Ordering.{nat_cmp, ordering_then, is_lt, is_le}
 use Rattle.std.specs.Cmp.Lexicographic.{slice_cmp}

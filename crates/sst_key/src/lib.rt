@@ -62,8 +62,8 @@ pub use entries::{Entry, EntryView, Kind};
 pub use faults::WriteFault;
 pub use keys::{cmp_internal, internal_order_is_entry_order, pack};
 pub use list_laws::{
-    get_shows_the_newest, seek_for_prev_lands_on_the_last_up_to,
-    seek_lands_on_the_first_not_before, targets_compare_as_said,
+    first_and_next_go_through, get_shows_the_newest, seek_for_prev_lands_on_the_last_up_to,
+    seek_lands_on_the_first_not_before, targets_compare_as_said, visible_is_what_gets_show,
 };
 pub use list_machine::{answer, target_cmp};
 pub use reading::{packed_is_unpacked, unpack};

@@ -1,8 +1,11 @@
-ghost use Rattle.std.specs.Prelude.{◌≡◌, ℕ, ◌<◌, ◌≤◌, ◌↔◌, Some, None, List, slice_get, IsTrue};
+ghost use Rattle.std.specs.Prelude.{◌≡◌, ℕ, ◌<◌, ◌≤◌, ◌↔◌, Option, Some, None, List, [], ◌∷◌, ◌++◌, length, map, replicate, slice_get, IsTrue, Contains, AllPairs};
 ghost use Rattle.sst_key.specs.Entry.{IsOrdered, tag};
-ghost use Rattle.sst_key.specs.ListMachine.{is_before_target, is_up_to_target, seek_of, seek_for_prev_of, get_of, visible};
+ghost use Rattle.sst_key.specs.ListMachine.{is_before_target, is_up_to_target, seek_of, seek_for_prev_of, get_of, lands, replies_from, visible};
 ghost use Rattle.sst_key.specs.ListLaws.{IsBeforeTarget, IsUpToTarget, IsSeen, StandsAt, IsFirstPlace, Each, EachAhead, EachBehind};
 ghost use Rattle.sst_key.specs.declared.entries.Entry.{Entry};
+ghost use Rattle.sst_key.specs.declared.calls.Format.{Format};
+ghost use Rattle.sst_key.specs.declared.calls.Call.TheVariants.{First, Next};
+ghost use Rattle.std.specs.List.{range_with_len};
 
 /// What stands before a target: the entries of lesser user keys, and of the target's own user key the newer ones.
 ///
@@ -47,4 +50,25 @@ pub fn get_shows_the_newest()
     ensures newest { (entries : List Entry) (user : List ℕ) (snapshot i : ℕ) (e : Entry) → IsOrdered entries
         → get_of entries user snapshot ≡ Some i → slice_get entries i ≡ Some e
         → Each (λ f. IsSeen user snapshot f → tag f.seq f.kind ≤ tag e.seq e.kind) entries }
+{}
+
+/// First and then Next go through the whole list: as many calls as it has entries show them all in order, and the
+/// next call shows none and leaves the position nowhere.
+///
+/// It holds of each format, from any position. RocksDB: `Iterator::SeekToFirst` and `Iterator::Next` in
+/// include/rocksdb/iterator.h.
+pub fn first_and_next_go_through()
+    ensures { (format : Format) (prefix : ℕ) (entries : List Entry) (position : Option ℕ)
+        → replies_from format prefix entries position (First ∷ replicate (length entries) Next)
+        ≡ map (λ i. lands (Some i)) (range_with_len 0 (length entries)) ++ lands None ∷ [] }
+{}
+
+/// What a snapshot sees of a list is what the Gets at it show, and of each user key it is one entry at most.
+///
+/// RocksDB: `ReadOptions::snapshot` in include/rocksdb/options.h.
+pub fn visible_is_what_gets_show()
+    ensures shown { (entries : List Entry) (snapshot : ℕ) (e : Entry) → IsOrdered entries
+        → Contains (visible entries snapshot) e
+        ↔ ((user : List ℕ) × (i : ℕ) × (get_of entries user snapshot ≡ Some i) × (slice_get entries i ≡ Some e)) }
+    ensures once { (entries : List Entry) (snapshot : ℕ) → AllPairs (λ a b. a.user ≡ b.user → ⊥) (visible entries snapshot) }
 {}

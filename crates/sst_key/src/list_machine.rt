@@ -1,8 +1,8 @@
-ghost use Rattle.std.specs.Prelude.{◌≡◌, slice_get};
+ghost use Rattle.std.specs.Prelude.{◌≡◌};
 ghost use Rattle.sst_key.specs.ListMachine as machine;
-ghost use Rattle.sst_key.specs.ListMachine.{answer_of, answer_to};
+ghost use Rattle.sst_key.specs.ListMachine.{answer_of};
 
-use crate::calls::{Answer, Call, Format, Reply};
+use crate::calls::{Answer, Call, Format, Reply, Target};
 use crate::entries::Entry;
 use std::cmp::Ordering;
 
@@ -20,22 +20,22 @@ pub fn target_cmp(entry: &Entry, user: &[u8], seq: u64) -> Ordering
 }
 
 /// How many entries are before the target.
-fn below(entries: &[Entry], user: &[u8], seq: u64) -> usize
-    ensures { result ≡ machine.below entries.now user.now seq }
+fn below(entries: &[Entry], target: &Target) -> usize
+    ensures { result ≡ machine.below entries.now target.now.user target.now.seq }
 {
     entries
         .iter()
-        .filter(|entry| target_cmp(*entry, user, seq).is_lt())
+        .filter(|entry| target_cmp(*entry, target.user.as_slice(), target.seq).is_lt())
         .count()
 }
 
 /// How many entries are before the target or at it.
-fn up_to(entries: &[Entry], user: &[u8], seq: u64) -> usize
-    ensures { result ≡ machine.up_to entries.now user.now seq }
+fn up_to(entries: &[Entry], target: &Target) -> usize
+    ensures { result ≡ machine.up_to entries.now target.now.user target.now.seq }
 {
     entries
         .iter()
-        .filter(|entry| target_cmp(*entry, user, seq).is_le())
+        .filter(|entry| target_cmp(*entry, target.user.as_slice(), target.seq).is_le())
         .count()
 }
 
@@ -53,7 +53,7 @@ fn place_before(i: usize) -> Option<usize>
     i.checked_sub(1)
 }
 
-/// One place on.
+/// Where Next lands.
 fn next(entries: &[Entry], i: usize) -> Option<usize>
     ensures { result ≡ machine.next_of entries.now i }
 {
@@ -65,14 +65,14 @@ fn next(entries: &[Entry], i: usize) -> Option<usize>
 }
 
 /// What Get shows.
-fn get(entries: &[Entry], user: &[u8], seq: u64) -> Option<usize>
-    ensures { result ≡ machine.get_of entries.now user.now seq }
+fn get(entries: &[Entry], target: &Target) -> Option<usize>
+    ensures { result ≡ machine.get_of entries.now target.now.user target.now.seq }
 {
-    let i = below(entries, user, seq);
-    match entries.get(i) {
+    let newest = below(entries, target);
+    match entries.get(newest) {
         Some(entry) => {
-            if entry.user.as_slice() == user {
-                Some(i)
+            if entry.user.as_slice() == target.user.as_slice() {
+                Some(newest)
             } else {
                 None
             }
@@ -103,32 +103,23 @@ fn is_prefix_mode(format: Format, prefix: usize) -> bool
     }
 }
 
-/// Where Seek lands within the prefix of its target.
-fn seek_alike(entries: &[Entry], prefix: usize, user: &[u8], seq: u64) -> Option<usize>
-    ensures { result ≡ machine.where_passes (machine.begins_alike prefix user.now)
-        (machine.below entries.now user.now seq) (slice_get entries.now (machine.below entries.now user.now seq)) }
+/// Where Seek lands in a format.
+fn seek(entries: &[Entry], format: Format, prefix: usize, target: &Target) -> Option<usize>
+    ensures { result ≡ machine.seek_in format prefix entries.now target.now.user target.now.seq }
 {
-    let i = below(entries, user, seq);
-    match entries.get(i) {
+    let first = below(entries, target);
+    if !is_prefix_mode(format, prefix) {
+        return place_in(entries, first);
+    }
+    match entries.get(first) {
         Some(entry) => {
-            if begins_alike(entry, prefix, user) {
-                Some(i)
+            if begins_alike(entry, prefix, target.user.as_slice()) {
+                Some(first)
             } else {
                 None
             }
         }
         None => None,
-    }
-}
-
-/// Where Seek lands in a format.
-fn seek(entries: &[Entry], format: Format, prefix: usize, user: &[u8], seq: u64) -> Option<usize>
-    ensures { result ≡ machine.seek_in format prefix entries.now user.now seq }
-{
-    if is_prefix_mode(format, prefix) {
-        seek_alike(entries, prefix, user, seq)
-    } else {
-        place_in(entries, below(entries, user, seq))
     }
 }
 
@@ -167,6 +158,17 @@ fn lands(place: Option<usize>) -> Answer
     shows(place, place)
 }
 
+/// A call that the format lacks.
+fn lacking(position: Option<usize>) -> Answer
+    ensures { result ≡ machine.lacking position }
+{
+    Answer {
+        reply: Reply::Lacks,
+        shown: None,
+        position,
+    }
+}
+
 /// A step from nowhere.
 fn not_positioned() -> Answer
     ensures { result ≡ machine.not_positioned }
@@ -179,31 +181,21 @@ fn not_positioned() -> Answer
 }
 
 /// What a call answers that the format has.
-fn answer_present(
+fn answer_to(
     entries: &[Entry],
     format: Format,
     prefix: usize,
     position: Option<usize>,
     call: &Call,
 ) -> Answer
-    ensures { result ≡ answer_to format prefix entries.now position call.now }
+    ensures { result ≡ machine.answer_to format prefix entries.now position call.now }
 {
     match call {
-        Call::Get(target) => shows(position, get(entries, target.user.as_slice(), target.seq)),
+        Call::Get(target) => shows(position, get(entries, target)),
         Call::First => lands(place_in(entries, 0)),
         Call::Last => lands(place_before(entries.len())),
-        Call::Seek(target) => lands(seek(
-            entries,
-            format,
-            prefix,
-            target.user.as_slice(),
-            target.seq,
-        )),
-        Call::SeekForPrev(target) => lands(place_before(up_to(
-            entries,
-            target.user.as_slice(),
-            target.seq,
-        ))),
+        Call::Seek(target) => lands(seek(entries, format, prefix, target)),
+        Call::SeekForPrev(target) => lands(place_before(up_to(entries, target))),
         Call::Next => match position {
             Some(i) => lands(next(entries, i)),
             None => not_positioned(),
@@ -232,12 +224,8 @@ pub fn answer(
     ensures exact { result ≡ answer_of format prefix entries.now position call.now }
 {
     if lacks(format, call) {
-        Answer {
-            reply: Reply::Lacks,
-            shown: None,
-            position,
-        }
+        lacking(position)
     } else {
-        answer_present(entries, format, prefix, position, call)
+        answer_to(entries, format, prefix, position, call)
     }
 }
