@@ -1,11 +1,22 @@
 //! The answers to a list of calls.
-ghost use Rattle.std.specs.Prelude.{◌≡◌, ℕ, Option, Some, option_and_then, slice_get};
+ghost use Rattle.std.specs.Prelude.{◌≡◌, ℕ, ◌≤◌, List, [], ◌++◌, take, Option, Some, option_and_then, slice_get, Err, OnOk, OnErr};
+ghost use Rattle.std.specs.Io.KnownBytes.{append_known};
 ghost use Rattle.sst_key.specs.ListMachine.{answer_of, shows, get_of};
 ghost use Rattle.sst_key.specs.declared.calls.Format.TheVariants.{Block};
+ghost use Rattle.sst_cli.specs.Faults.{Rose};
+ghost use Rattle.sst_cli.specs.Replies.{answer_line, answers_text};
 ghost use Rattle.sst_cli.specs.Cursors.{Belongs, Comes, entry_shown, lent};
 
 use crate::bbt_reader::{BbtReader, Cursor};
+use crate::device::folder::DevStop;
+use crate::device::stream::{Sink, put_all};
+use crate::reply_line::put_reply_line;
 use sst_key::{Call, EntryView, Reply, Target};
+use sst_num::Memory;
+use std::alloc::Global;
+
+/// How many bytes of text wait before they are put.
+const PIECE: usize = 65_536;
 
 /// Answers a Get with a cursor of its own.
 fn look_up<'r>(reader: &'r BbtReader, target: &Target) -> (Reply, Option<EntryView<'r>>)
@@ -60,4 +71,65 @@ fn answer<'r>(
         Call::Next => at(reader, reader.next(position), position),
         Call::Prev => at(reader, reader.prev(position), position),
     }
+}
+
+/// Answers a call and appends its line. Where memory runs out, `text` holds its old bytes followed by any.
+fn put_answer(
+    reader: &BbtReader,
+    position: &mut Cursor,
+    call: &Call,
+    text: &mut Vec<u8>,
+) -> Result<(), Memory>
+    requires { Belongs reader.now position.old }
+    ensures line { OnOk result (text.new.items ≡ text.old.items
+        ++ answer_line reader.now call.now (answer_of Block 0 reader.now position.old call.now)) }
+    ensures position { position.new ≡ (answer_of Block 0 reader.now position.old call.now).position }
+    ensures belongs { Belongs reader.now position.new }
+{
+    let (reply, shown) = answer(reader, position, call);
+    put_reply_line(text, reply, shown, call)
+}
+
+/// Prints the text that waits, if it has so many bytes. After an error a prefix of it stands in the sink.
+fn print_waiting<O: Sink>(out: &mut O, text: &mut Vec<u8>, least: usize) -> Result<(), DevStop>
+    ensures ok { OnOk result ((piece : List ℕ) × (text.old.items ≡ piece ++ text.new.items)
+        × (O.written out.new ≡ append_known (O.written out.old) piece)) }
+    ensures err { OnErr result ((n : ℕ)
+        × (O.written out.new ≡ append_known (O.written out.old) (take n text.old.items))) }
+    ensures all { OnOk result (least ≡ 0 → text.new.items ≡ []) }
+    ensures failed { result ≡ Err DevStop.Failed → Rose (O.faults out.old) (O.faults out.new) }
+    ensures counts { O.faults out.old ≤ O.faults out.new }
+{
+    if text.len() < least {
+        return Ok(());
+    }
+    put_all(out, text.as_slice())?;
+    text.truncate(0);
+    Ok(())
+}
+
+/// Prints the line of the answer to each call, in order. After an error a prefix of the text stands in the sink.
+///
+/// The lines are put in pieces of some tens of kilobytes.
+pub fn print_answers<O: Sink>(
+    alloc: Global,
+    reader: &BbtReader,
+    calls: &[Call],
+    out: &mut O,
+) -> Result<(), DevStop>
+    ensures all { OnOk result (O.written out.new ≡ append_known (O.written out.old) (answers_text reader.now calls.now)) }
+    ensures err { OnErr result ((n : ℕ)
+        × (O.written out.new ≡ append_known (O.written out.old) (take n (answers_text reader.now calls.now)))) }
+    ensures failed { result ≡ Err DevStop.Failed → Rose (O.faults out.old) (O.faults out.new) }
+    ensures counts { O.faults out.old ≤ O.faults out.new }
+{
+    let mut position = reader.cursor();
+    let mut text = Vec::new(alloc);
+    let mut done = 0;
+    while done < calls.len() {
+        put_answer(reader, &mut position, &calls[done], &mut text)?;
+        print_waiting(out, &mut text, PIECE)?;
+        done += 1;
+    }
+    print_waiting(out, &mut text, 0)
 }

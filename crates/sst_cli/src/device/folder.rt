@@ -2,6 +2,9 @@
 ghost use Rattle.std.specs.Prelude.{◌≡◌, ℕ, ◌+◌, ◌-◌, ◌^◌, ◌<◌, ◌≤◌, ◌⊎◌, ◌++◌, [], length, take, slice_range, Option, IsTrue, IsErr, IfOk, IfSome, OnOk, OnErr};
 ghost use Rattle.sst_cli.specs.Folder.{Files, file_of, put_file, edit_file, misses, written_over};
 ghost use Rattle.sst_cli.specs.Faults.{Rose, counted};
+ghost use Rattle.sst_cli.specs.declared.device.folder.DevStop.TheVariants as stop;
+
+use sst_num::Memory;
 
 /// A fault of an object outside: reading or writing failed.
 #[derive(Clone, Copy, Debug, PartialEq, Eq)]
@@ -14,6 +17,14 @@ pub enum DevStop {
     Failed,
     /// Memory ran out.
     Memory,
+}
+
+impl From<Memory> for DevStop {
+    ghost from_gives = { λ _ s. s ≡ stop.Memory };
+
+    fn from(_memory: Memory) -> DevStop {
+        DevStop::Memory
+    }
 }
 
 /// A folder of named files.

@@ -1,0 +1,35 @@
+-- The text of the answers to a list of calls: one line each. These texts are this project's own.
+use Rattle.std.specs.Prelude.{◌≡◌, ℕ, List, [], ◌∷◌, ◌++◌, Option, None}
+use Rattle.std.specs.Io.KnownBytes.{append_known}
+use Rattle.sst_key.specs.declared.entries.Entry.{Entry}
+use Rattle.sst_key.specs.declared.calls.Call.{Call}
+use Rattle.sst_key.specs.declared.calls.Answer.{Answer}
+use Rattle.sst_key.specs.declared.calls.Format.TheVariants.{Block}
+use Rattle.sst_key.specs.ListMachine.{replies_from}
+use Rattle.sst_cli.specs.ReplyText.{reply_line}
+use Rattle.sst_cli.specs.Cursors.{entry_shown}
+
+-- the line of what a call answers, and its line end
+abbrev pub answer_line : List Entry → Call → Answer → List ℕ
+answer_line entries call answer = reply_line answer.reply (entry_shown entries answer) call ++ 10 ∷ []
+
+-- a line for each call and its answer
+abbrev pub lines_of : List Entry → List Call → List Answer → List ℕ
+lines_of entries [] answers = []
+lines_of entries (call ∷ calls) [] = []
+lines_of entries (call ∷ calls) (answer ∷ answers) = answer_line entries call answer ++ lines_of entries calls answers
+
+-- the text of the answers from a position on
+unfoldable pub answers_from : List Entry → Option ℕ → List Call → List ℕ
+answers_from entries position calls = lines_of entries calls (replies_from Block 0 entries position calls)
+
+-- the text of the answers of a block-based table with these entries
+abbrev pub answers_text : List Entry → List Call → List ℕ
+answers_text entries calls = answers_from entries None calls
+
+-- Part of a text was printed: what was put so far, what waits in `text` and the answers to the calls from here on make
+-- up the whole.
+pub record Printing (entries : List Entry) (calls : List Call) (before now : Option (List ℕ)) (text : List ℕ) (position : Option ℕ) (rest : List Call) : Type 0 where
+  pub put : List ℕ
+  pub printed : now ≡ append_known before put
+  pub whole : answers_text entries calls ≡ put ++ (text ++ answers_from entries position rest)
