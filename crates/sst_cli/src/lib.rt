@@ -73,7 +73,7 @@ mod bbt_writer;
 mod cuts;
 pub mod device;
 mod entry_line;
-mod footer;
+pub mod footer;
 mod laws;
 mod lines;
 mod meta_fault;
