@@ -73,6 +73,7 @@ mod bbt_writer;
 mod cuts;
 pub mod device;
 mod entry_line;
+pub mod fault_text;
 pub mod footer;
 mod laws;
 mod lines;
