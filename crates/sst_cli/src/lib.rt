@@ -77,6 +77,7 @@ pub mod fault_text;
 pub mod footer;
 mod laws;
 mod lines;
+pub mod load;
 mod meta_fault;
 mod produce;
 mod program;
