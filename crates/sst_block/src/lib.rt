@@ -58,6 +58,7 @@
 mod builder;
 mod fault;
 mod laws;
+mod row;
 mod row_form;
 #[cfg(test)]
 mod tests;
