@@ -2,5 +2,6 @@ pub mod BlockLaws
 pub mod Fronts
 pub mod Held
 pub mod Kept
+pub mod Meeting
 pub mod Size
 pub mod Steps

@@ -56,6 +56,7 @@
 #![tactic(auto)]
 
 mod builder;
+mod check;
 mod fault;
 mod laws;
 mod row;
