@@ -60,7 +60,7 @@ found_among (x ∷ seen) more at =
     let rest = found_among seen more at in
     elim (nat_eq at x) as (λ b. (b || list_any (nat_eq at) (seen ++ at ∷ more)) ≡ true) [ true ↦ refl | false ↦ rest ]
 
-both : (a b : Bool) → (a && b) ≡ true → (a ≡ true) × (b ≡ true)
+pub both : (a b : Bool) → (a && b) ≡ true → (a ≡ true) × (b ≡ true)
 both true b e = (refl, e)
 both false b e = (e, cc)
 
