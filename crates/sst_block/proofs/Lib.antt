@@ -3,6 +3,8 @@ pub mod Fronts
 pub mod Held
 pub mod Kept
 pub mod Meeting
+pub mod Parts
+pub mod Pass
 pub mod RowLengths
 pub mod Size
 pub mod Steps

@@ -1,5 +1,5 @@
 -- The restarts that are met one after another are those that have no fault: the first that isn't met is the first fault.
-use Rattle.std.proofs.Common.{◌≡◌, ◌⊎◌, inl, inr, ℕ, zero, suc, ◌+◌, ◌-◌, ◌==◌, ◌<◌, ◌≤◌, Bool, true, false, ◌&&◌, ◌||◌, if◌then◌else◌, List, [], ◌∷◌, ◌++◌, length, drop, Option, Some, None, option_and_then, refl, sym, ap, ◌∙◌, subst, append_assoc, append-nil, length-append, eqb-true, eq-eqb, arith}
+use Rattle.std.proofs.Common.{◌≡◌, inl, inr, ℕ, zero, suc, ◌+◌, ◌-◌, ◌==◌, ◌<◌, ◌≤◌, Bool, true, false, ◌&&◌, ◌||◌, if◌then◌else◌, List, [], ◌∷◌, ◌++◌, length, drop, Option, Some, None, option_and_then, refl, sym, ap, ◌∙◌, subst, append_assoc, append-nil, length-append, eqb-true, eq-eqb, arith}
 use Rattle.std.specs.Prelude.{nat_eq, nat_lt}
 use Rattle.std.specs.List.{list_any}
 use Rattle.std.proofs.lemmas.Bool.{cases_Bool, cases_lt, cases_eq, lt-ltb, le-ltb, ltb-true, ne_eqb}
@@ -11,7 +11,7 @@ use Rattle.sst_num.proofs.Groups.{varint-some}
 use Rattle.sst_block.specs.declared.fault.BlockFault.{BlockFault}
 use Rattle.sst_block.specs.declared.fault.BlockFault.TheVariants.{BadRestart}
 use Rattle.sst_block.specs.Block.{Spelled, row_spelling, fresh_starts}
-use Rattle.sst_block.specs.Reading.{number_where, may_follow, restart_fault, by_number}
+use Rattle.sst_block.specs.Reading.{may_follow, restart_fault}
 use Rattle.sst_block.specs.Restarts.{Open, is_next, met, met_by, open_after}
 
 -- a row takes at least one byte
@@ -124,8 +124,8 @@ met-stays (suc n) at last left e = rw (lt-ltb 0 (suc n) (omega arith), e) refl
 -- a row that shares nothing, if what follows is right
 fresh-fault : (rows : List Spelled) (seen : List ℕ) (at further n i last : ℕ) (left : List ℕ) → Below seen at → Unmet seen n last (fixed_at 4 left)
     → ((n i last : ℕ) (left : List ℕ) → Unmet (seen ++ at ∷ []) n last (fixed_at 4 left)
-      → restart_fault ((seen ++ at ∷ []) ++ fresh_starts further rows) n i last left
-      ≡ fault_of (i + n) (open_after further (record { missing = n; last = last; left = left }) rows))
+    → restart_fault ((seen ++ at ∷ []) ++ fresh_starts further rows) n i last left
+    ≡ fault_of (i + n) (open_after further (record { missing = n; last = last; left = left }) rows))
     → restart_fault ((seen ++ at ∷ []) ++ fresh_starts further rows) n i last left
     ≡ fault_of (i + n) (open_after further (met at (record { missing = n; last = last; left = left })) rows)
 fresh-fault rows seen at further zero i last left b u follows =

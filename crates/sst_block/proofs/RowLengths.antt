@@ -1,8 +1,7 @@
 -- A row that is read takes as many bytes as its spelling has.
-use Rattle.std.proofs.Common.{◌≡◌, ℕ, ◌+◌, ◌-◌, ◌<◌, ◌≤◌, Bool, true, false, ◌&&◌, List, [], ◌∷◌, ◌++◌, length, take, drop, Option, Some, None, option_and_then, refl, sym, ap, ◌∙◌, subst, ◌^◌, if◌then◌else◌, length-append, length-drop, arith}
-use Rattle.std.specs.Prelude.{nat_le, nat_lt, Result, Ok, Err}
+use Rattle.std.proofs.Common.{◌≡◌, ℕ, ◌+◌, ◌-◌, ◌≤◌, true, false, List, ◌++◌, length, take, drop, Option, Some, None, option_and_then, refl, subst, ◌^◌, if◌then◌else◌, length-append, length-drop, arith}
+use Rattle.std.specs.Prelude.{nat_lt, Ok}
 use Rattle.std.proofs.lemmas.Bool.{leb-true}
-use Rattle.std.proofs.lemmas.Bool.Decides.{nat_tests}
 use Rattle.std.proofs.lemmas.List.{length-take-le}
 use Rattle.std.proofs.Math.Seq.{drop-append_seam}
 use Rattle.sst_block.proofs.Meeting.{both}
@@ -12,7 +11,7 @@ use Rattle.sst_num.specs.Reading.{varint_at, varint32_at, in_32_bits}
 use Rattle.sst_num.proofs.Reading.{varint_at-found}
 use Rattle.sst_block.specs.declared.row_form.RowForm.{RowForm}
 use Rattle.sst_block.specs.declared.fault.BlockFault.{BlockFault}
-use Rattle.sst_block.specs.Block.{Row, Spelled, row_spelling}
+use Rattle.sst_block.specs.Block.{Spelled, row_spelling}
 use Rattle.sst_block.specs.Reading.{Lengths, lengths_at, are_within, row_by, row_of_lengths, row_at, sound_row, row_fault, row_read, unless, key_before}
 
 in_32_bits-same : (inner read : ℕ × ℕ) → in_32_bits inner ≡ Some read → inner ≡ read

@@ -1,7 +1,7 @@
 -- The names that the code's own values have in the reading of a block (specs/Reading.antt). Nothing is promised here.
-use Rattle.std.specs.Prelude.{◌≡◌, ℕ, ◌+◌, length, Bool, true, false, List, [], Option, None, Some, option_map, ◌<◌, ◌≤◌, if◌then◌else◌}
+use Rattle.std.specs.Prelude.{◌≡◌, ℕ, ◌+◌, length, Bool, true, List, Option, None, Some, option_map, ◌<◌, ◌≤◌, if◌then◌else◌}
 use Rattle.sst_block.specs.declared.row.Lengths.{Lengths}
-use Rattle.sst_block.specs.Block.{Row, Spelled}
+use Rattle.sst_block.specs.Block.{Spelled}
 use Rattle.sst_block.specs.Reading as reading
 use Rattle.sst_block.specs.declared.row_form.RowForm.{RowForm}
 use Rattle.sst_block.specs.Reading.{row_by, has_tag}

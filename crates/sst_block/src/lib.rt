@@ -65,6 +65,7 @@ mod row_form;
 mod tests;
 
 pub use builder::BlockBuilder;
+pub use check::check_block;
 pub use fault::BlockFault;
 pub use laws::chosen_block_stands_for_its_rows;
 pub use row_form::RowForm;
