@@ -2,5 +2,9 @@ pub mod BlockLaws
 pub mod Fronts
 pub mod Held
 pub mod Kept
+pub mod Meeting
+pub mod Parts
+pub mod Pass
+pub mod RowLengths
 pub mod Size
 pub mod Steps

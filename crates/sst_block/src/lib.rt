@@ -56,13 +56,16 @@
 #![tactic(auto)]
 
 mod builder;
+mod check;
 mod fault;
 mod laws;
+mod row;
 mod row_form;
 #[cfg(test)]
 mod tests;
 
 pub use builder::BlockBuilder;
+pub use check::check_block;
 pub use fault::BlockFault;
 pub use laws::chosen_block_stands_for_its_rows;
 pub use row_form::RowForm;
