@@ -67,5 +67,7 @@ mod tests;
 pub use builder::BlockBuilder;
 pub use check::check_block;
 pub use fault::BlockFault;
-pub use laws::chosen_block_stands_for_its_rows;
+pub use laws::{
+    a_block_has_one_list_of_rows, chosen_block_stands_for_its_rows, reading_finds_exactly_the_rows,
+};
 pub use row_form::RowForm;
