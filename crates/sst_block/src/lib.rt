@@ -57,6 +57,8 @@
 
 mod builder;
 mod check;
+#[cfg(test)]
+mod check_tests;
 mod fault;
 mod laws;
 mod row;
