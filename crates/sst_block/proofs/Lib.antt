@@ -8,3 +8,4 @@ pub mod Pass
 pub mod RowLengths
 pub mod Size
 pub mod Steps
+pub mod Walking

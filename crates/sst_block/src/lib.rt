@@ -60,6 +60,7 @@ mod check;
 #[cfg(test)]
 mod check_tests;
 mod fault;
+mod iter;
 mod laws;
 mod row;
 mod row_form;
@@ -69,5 +70,6 @@ mod tests;
 pub use builder::BlockBuilder;
 pub use check::check_block;
 pub use fault::BlockFault;
+pub use iter::BlockIter;
 pub use laws::chosen_block_stands_for_its_rows;
 pub use row_form::RowForm;
