@@ -16,3 +16,4 @@ pub mod RowForms
 pub mod RowsRead
 pub mod Size
 pub mod Steps
+pub mod Walking

@@ -120,3 +120,8 @@ pub row_read-length : (form : RowForm) (at : ℕ) (before : Option (List ℕ)) (
 unfolding row_read
 row_read-length form at before bytes read e =
     row_at-length (key_before before) bytes read (sound_row-some form at before (row_at (key_before before) bytes) read e)
+
+-- a row that is read stands at the front
+pub row_read-at : (form : RowForm) (at : ℕ) (before : Option (List ℕ)) (bytes : List ℕ) (read : Spelled × ℕ) → row_read form at before bytes ≡ Ok read → row_at (key_before before) bytes ≡ Some read
+unfolding row_read
+row_read-at form at before bytes read e = sound_row-some form at before (row_at (key_before before) bytes) read e

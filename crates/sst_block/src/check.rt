@@ -1,7 +1,7 @@
-ghost use Rattle.std.specs.Prelude.{◌≡◌, ℕ, ◌+◌, ◌*◌, ◌<◌, ◌≤◌, ◌^◌, List, [], length};
+ghost use Rattle.std.specs.Prelude.{◌≡◌, ℕ, ◌+◌, ◌*◌, ◌<◌, ◌≤◌, ◌^◌, List, [], length, take, Some};
 ghost use Rattle.sst_block.specs.Builder.{HasNoFlags};
 ghost use Rattle.sst_block.specs.Reading as reading;
-ghost use Rattle.sst_block.specs.Reading.{Gives, block_read, parts_read, then_read, with_restarts, rows_read};
+ghost use Rattle.sst_block.specs.Reading.{Gives, block_read, parts_read, then_read, with_restarts, rows_read, rows_end};
 ghost use Rattle.sst_block.specs.Restarts as restarts;
 ghost use Rattle.sst_block.specs.Restarts.{Open, met, met_by, open_of, rows_counted};
 
@@ -68,6 +68,21 @@ fn restart_count(block: &[u8]) -> Option<u32>
         Some(count)
     } else {
         None
+    }
+}
+
+/// The rows of a block whose footer is good.
+pub fn rows_of<'b>(block: &'b [u8]) -> &'b [u8]
+    ensures { (count : ℕ) → reading.restart_count block.now ≡ Some count → result.now ≡ take (rows_end block.now count) block.now }
+{
+    match restart_count(block) {
+        Some(count) => {
+            let (rows, _) = block.split_at(
+                block.len() - NUMBER_LENGTH - NUMBER_LENGTH * count as usize,
+            );
+            rows
+        }
+        None => block,
     }
 }
 

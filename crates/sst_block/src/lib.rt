@@ -57,7 +57,10 @@
 
 mod builder;
 mod check;
+#[cfg(test)]
+mod check_tests;
 mod fault;
+mod iter;
 mod laws;
 mod row;
 mod row_form;
@@ -67,6 +70,7 @@ mod tests;
 pub use builder::BlockBuilder;
 pub use check::check_block;
 pub use fault::BlockFault;
+pub use iter::BlockIter;
 pub use laws::{
     a_block_has_one_list_of_rows, chosen_block_stands_for_its_rows, reading_finds_exactly_the_rows,
 };
