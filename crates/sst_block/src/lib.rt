@@ -56,13 +56,22 @@
 #![tactic(auto)]
 
 mod builder;
+mod check;
+#[cfg(test)]
+mod check_tests;
 mod fault;
+mod iter;
 mod laws;
+mod row;
 mod row_form;
 #[cfg(test)]
 mod tests;
 
 pub use builder::BlockBuilder;
+pub use check::check_block;
 pub use fault::BlockFault;
-pub use laws::chosen_block_stands_for_its_rows;
+pub use iter::BlockIter;
+pub use laws::{
+    a_block_has_one_list_of_rows, chosen_block_stands_for_its_rows, reading_finds_exactly_the_rows,
+};
 pub use row_form::RowForm;

@@ -61,6 +61,7 @@
 //! (`ComputeBuiltinChecksumWithLastByte`), util/crc32c.h; the folder does the work of `FileSystem` in
 //! include/rocksdb/file_system.h.
 mod counts;
+pub mod draw;
 pub mod folder;
 pub mod frame;
 pub mod memory;

@@ -1,0 +1,241 @@
+ghost use Rattle.std.specs.Prelude.{◌≡◌, ◌⊎◌, ℕ, ◌+◌, ◌<◌, ◌≤◌, ◌^◌, true, false, List, [], ◌++◌, length, take, drop, IfSome, IfNone, IfOk, IfErr, Ok, Err, option_map};
+ghost use Rattle.sst_block.specs.Block as blocks;
+ghost use Rattle.sst_block.specs.Reading as reading;
+ghost use Rattle.sst_block.specs.Reading.{then_read, lengths_at, row_at, row_fault, row_read};
+ghost use Rattle.sst_block.specs.Rows.{numbers, spelled_lengths, key_held, row_lent, FitsIn, IsLongEnough, row_length};
+
+use crate::fault::BlockFault;
+use crate::row_form::RowForm;
+use sst_key::{KeyRoom, cmp_internal, unpack};
+use sst_num::{take_handle, take_varint32};
+use std::cmp::Ordering;
+
+/// The longest key that a block may have: a user key of 65,536 bytes and a tag.
+const LONGEST_KEY: usize = 65_544;
+
+/// How many bytes of a stored key are its tag.
+const TAG_LENGTH: usize = 8;
+
+/// The three lengths that a row begins with, and how many bytes they take.
+#[derive(Clone, Copy)]
+pub struct Lengths {
+    /// How many bytes the key shares with the key before.
+    pub shared: usize,
+    /// How many bytes of the key follow.
+    pub rest: usize,
+    /// How many bytes the value has.
+    pub value: usize,
+    /// How many bytes these three lengths take.
+    pub used: usize,
+}
+
+/// Reads the lengths of the row at the front. RocksDB: `DecodeEntry` in table/block_based/block_util.h.
+#[tactic(auto, unfolding(crate::specs::Reading::lengths_at))]
+fn take_lengths(bytes: &[u8]) -> Option<Lengths>
+    ensures exact { spelled_lengths result ≡ lengths_at bytes.now }
+    ensures within { IfSome result (λ l. (l.shared < 2 ^ 32) × (l.rest < 2 ^ 32) × (l.value < 2 ^ 32) × (0 < l.used) × (l.used ≤ length bytes.now)) }
+{
+    let (shared, shared_used) = take_varint32(bytes)?;
+    let (_, after_shared) = bytes.split_at(shared_used);
+    let (rest, rest_used) = take_varint32(after_shared)?;
+    let (_, after_rest) = after_shared.split_at(rest_used);
+    let (value, value_used) = take_varint32(after_rest)?;
+    Some(Lengths {
+        shared: shared as usize,
+        rest: rest as usize,
+        value: value as usize,
+        used: shared_used + rest_used + value_used,
+    })
+}
+
+/// The key is an internal key of one of the four kinds.
+fn is_internal_key(key: &[u8]) -> bool
+    ensures { result ≡ reading.is_internal_key key.now }
+{
+    unpack(key).is_some()
+}
+
+/// The value is a block handle and nothing else.
+fn is_handle(value: &[u8]) -> bool
+    ensures { result ≡ reading.is_handle value.now }
+{
+    match take_handle(value) {
+        Some((_, used)) => used == value.len(),
+        None => false,
+    }
+}
+
+/// The keys of the form end with a tag.
+fn has_tag(form: RowForm) -> bool
+    ensures { result ≡ reading.has_tag form }
+{
+    match form {
+        RowForm::Entries => true,
+        RowForm::Names => false,
+        RowForm::Index { user_key, .. } => !user_key,
+    }
+}
+
+/// The lengths of the row at the front, if they agree with the key before and the bytes that are there.
+#[tactic(auto, unfolding(crate::specs::Reading::row_at))]
+pub fn row_lengths(before: &[u8], bytes: &[u8]) -> Option<Lengths>
+    ensures exact { option_map (row_lent before.now bytes.now) result ≡ row_at before.now bytes.now }
+    ensures within { IfSome result (λ l. FitsIn (length before.now) (length bytes.now) l) }
+{
+    let l = take_lengths(bytes)?;
+    let fits = l.used + l.rest + l.value <= bytes.len();
+    if l.shared <= before.len() && fits && l.shared + l.rest <= LONGEST_KEY {
+        Some(l)
+    } else {
+        None
+    }
+}
+
+/// What the form says of a row's value and of the kind in its key. `at` is where the row begins.
+fn form_fault(form: RowForm, at: u32, key: &[u8], value: &[u8]) -> Option<BlockFault>
+    ensures { result ≡ reading.form_fault form at (record { key = key.now; value = value.now }) }
+{
+    match form {
+        RowForm::Entries => {
+            if is_internal_key(key) {
+                None
+            } else {
+                Some(BlockFault::BadKind(at))
+            }
+        }
+        RowForm::Names => None,
+        RowForm::Index { .. } => {
+            if is_handle(value) {
+                None
+            } else {
+                Some(BlockFault::BadHandle(at))
+            }
+        }
+    }
+}
+
+/// The order of the keys of a block: of stored keys, or bytewise.
+fn key_cmp(form: RowForm, a: &[u8], b: &[u8]) -> Ordering
+    requires first { IsLongEnough form a.now }
+    requires second { IsLongEnough form b.now }
+    ensures { result ≡ blocks.key_cmp form a.now b.now }
+{
+    match form {
+        RowForm::Entries => cmp_internal(a, b),
+        RowForm::Names => a.cmp(b),
+        RowForm::Index { user_key, .. } => {
+            if user_key {
+                a.cmp(b)
+            } else {
+                cmp_internal(a, b)
+            }
+        }
+    }
+}
+
+/// The key is after the one before, if there is one.
+fn is_after(form: RowForm, first: bool, before: &[u8], key: &[u8]) -> bool
+    requires before { first ≡ false → IsLongEnough form before.now }
+    requires key { IsLongEnough form key.now }
+    ensures { result ≡ reading.is_after form (key_held first before.now) key.now }
+{
+    if first {
+        return true;
+    }
+    match key_cmp(form, before, key) {
+        Ordering::Less => true,
+        _ => false,
+    }
+}
+
+/// The first fault of a row whose lengths are good.
+fn fault_of_row(
+    form: RowForm,
+    at: u32,
+    first: bool,
+    before: &[u8],
+    key: &[u8],
+    value: &[u8],
+) -> Option<BlockFault>
+    requires before { first ≡ false → IsLongEnough form before.now }
+    ensures exact { result ≡ row_fault form at (key_held first before.now) (record { key = key.now; value = value.now }) }
+    ensures long { IfNone result (IsLongEnough form key.now) }
+{
+    if has_tag(form) && key.len() < TAG_LENGTH {
+        return Some(BlockFault::BadRow(at));
+    }
+    match form_fault(form, at, key, value) {
+        Some(fault) => Some(fault),
+        None => {
+            if is_after(form, first, before, key) {
+                None
+            } else {
+                Some(BlockFault::Disorder(at))
+            }
+        }
+    }
+}
+
+/// The parts of a row behind its lengths, and what comes after it.
+#[derive(Clone, Copy)]
+pub struct Parts<'b> {
+    /// The bytes of the key that aren't shared.
+    pub rest: &'b [u8],
+    /// The value.
+    pub value: &'b [u8],
+    /// What comes after the row.
+    pub after: &'b [u8],
+}
+
+/// Splits the row at the front by its lengths.
+pub fn split_row<'b>(bytes: &'b [u8], l: Lengths) -> Parts<'b>
+    requires { row_length l ≤ length bytes.now }
+    ensures rest { result.rest.now ≡ take l.rest (drop l.used bytes.now) }
+    ensures value { result.value.now ≡ take l.value (drop (l.used + l.rest) bytes.now) }
+    ensures after { result.after.now ≡ drop (row_length l) bytes.now }
+{
+    let (_, behind) = bytes.split_at(l.used);
+    let (rest, after_key) = behind.split_at(l.rest);
+    let (value, after) = after_key.split_at(l.value);
+    Parts { rest, value, after }
+}
+
+/// Makes the key in `next` of the front of the key before and the rest of it.
+fn join_key(next: &mut KeyRoom, before: &[u8], shared: usize, rest: &[u8])
+    requires shared { shared ≤ length before.now }
+    requires fits { shared + length rest.now ≤ 65544 }
+    ensures { next.new ≡ take shared before.now ++ rest.now }
+{
+    let (front, _) = before.split_at(shared);
+    next.set(0, front);
+    next.set(shared, rest);
+}
+
+/// Reads the row at the front, whose key `next` holds then. `before` holds the key before, or none where the row
+/// is the first; `at` is where the row begins.
+#[tactic(auto, unfolding(crate::specs::Reading::row_read))]
+pub fn read_row(
+    form: RowForm,
+    at: u32,
+    first: bool,
+    before: &KeyRoom,
+    next: &mut KeyRoom,
+    bytes: &[u8],
+) -> Result<Lengths, BlockFault>
+    requires before { first ≡ false → IsLongEnough form before.now }
+    requires none { first ≡ true → before.now ≡ [] }
+    ensures exact { then_read result (λ l. Ok (row_lent before.now bytes.now l)) ≡ row_read form at (key_held first before.now) bytes.now }
+    ensures within { IfOk result (λ l. FitsIn (length before.now) (length bytes.now) l) }
+    ensures key { IfOk result (λ l. next.new ≡ (row_lent before.now bytes.now l).0.row.key) }
+    ensures long { IfOk result (λ l. IsLongEnough form next.new) }
+{
+    let Some(l) = row_lengths(before.bytes(), bytes) else {
+        return Err(BlockFault::BadRow(at));
+    };
+    let row = split_row(bytes, l);
+    join_key(next, before.bytes(), l.shared, row.rest);
+    match fault_of_row(form, at, first, before.bytes(), next.bytes(), row.value) {
+        Some(fault) => Err(fault),
+        None => Ok(l),
+    }
+}

@@ -1,0 +1,103 @@
+//! How what is wrong with a file is printed: `damage`, a name, and numbers. The names are this project's own.
+ghost use Rattle.std.specs.Prelude.{◌≡◌, Some, IfOk};
+ghost use Rattle.std.specs.String.{string_bytes};
+ghost use Rattle.sst_cli.specs.FaultText.{frame_fault_text, block_fault_text, meta_fault_text, bbt_fault_text};
+ghost use Rattle.sst_cli.specs.FaultText as texts;
+
+use crate::bbt_fault::BbtFault;
+use crate::device::frame::FrameFault;
+use crate::meta_fault::MetaFault;
+use sst_block::BlockFault;
+use sst_num::{Handle, Memory};
+use std::alloc::Global;
+use std::fmt;
+
+impl fmt::Display for FrameFault {
+    ghost output = { λ fault. Some (frame_fault_text fault) };
+
+    fn fmt<W: fmt::Write>(&self, f: &mut fmt::Formatter<W>) -> fmt::Result {
+        match self {
+            FrameFault::OutOfFile(h) => write!(f, "out-of-file {} {}", h.offset, h.size),
+            FrameFault::TooLarge(h) => write!(f, "too-large {} {}", h.offset, h.size),
+            FrameFault::Checksum(h) => write!(f, "checksum {} {}", h.offset, h.size),
+            FrameFault::Compressed(h, kind) => {
+                write!(f, "compressed {} {} {}", h.offset, h.size, kind)
+            }
+        }
+    }
+}
+
+/// What is wrong within a block, with where the block stands.
+#[derive(Clone, Copy)]
+struct BlockDamage {
+    /// Where the block begins in the file.
+    offset: u64,
+    /// What is wrong within it.
+    fault: BlockFault,
+}
+
+impl fmt::Display for BlockDamage {
+    ghost output = { λ damage. Some (block_fault_text damage.offset damage.fault) };
+
+    fn fmt<W: fmt::Write>(&self, f: &mut fmt::Formatter<W>) -> fmt::Result {
+        let offset = self.offset;
+        match self.fault {
+            BlockFault::BadRow(at) => write!(f, "row {offset} {at}"),
+            BlockFault::BadRestart(at) => write!(f, "restart {offset} {at}"),
+            BlockFault::BadFooter => write!(f, "block-footer {offset}"),
+            BlockFault::Disorder(at) => write!(f, "disorder {offset} {at}"),
+            BlockFault::BadKind(at) => write!(f, "kind {offset} {at}"),
+            BlockFault::BadHash(at) => write!(f, "hash {offset} {at}"),
+            BlockFault::BadHandle(at) => write!(f, "handle {offset} {at}"),
+        }
+    }
+}
+
+/// What is wrong within the block at a handle.
+fn within(handle: Handle, fault: BlockFault) -> BlockDamage
+    ensures offset { result.offset ≡ handle.offset }
+    ensures fault { result.fault ≡ fault }
+{
+    BlockDamage {
+        offset: handle.offset,
+        fault,
+    }
+}
+
+impl fmt::Display for MetaFault {
+    ghost output = { λ fault. Some (meta_fault_text fault) };
+
+    fn fmt<W: fmt::Write>(&self, f: &mut fmt::Formatter<W>) -> fmt::Result {
+        match self {
+            MetaFault::NotTable => f.write_str("not-table"),
+            MetaFault::Version(version) => write!(f, "version {version}"),
+            MetaFault::ChecksumType(kind) => write!(f, "checksum-type {kind}"),
+            MetaFault::BadFooter => f.write_str("footer"),
+            MetaFault::FileLong => f.write_str("file-long"),
+            MetaFault::Frame(fault) => write!(f, "{fault}"),
+            MetaFault::Block(handle, fault) => write!(f, "{}", within(*handle, *fault)),
+            MetaFault::NotYet => f.write_str("not-yet"),
+        }
+    }
+}
+
+impl fmt::Display for BbtFault {
+    ghost output = { λ fault. Some (bbt_fault_text fault) };
+
+    fn fmt<W: fmt::Write>(&self, f: &mut fmt::Formatter<W>) -> fmt::Result {
+        match self {
+            BbtFault::Meta(fault) => write!(f, "{fault}"),
+            BbtFault::Frame(fault) => write!(f, "{fault}"),
+            BbtFault::Block(handle, fault) => write!(f, "{}", within(*handle, *fault)),
+            BbtFault::EmptyBlock(h) => write!(f, "empty-block {} {}", h.offset, h.size),
+        }
+    }
+}
+
+/// The line that is printed for a damaged file.
+pub fn fault_line(alloc: Global, fault: BbtFault) -> Result<String, Memory>
+    ensures { IfOk result (λ text. string_bytes text ≡ texts.fault_text fault) }
+{
+    let text = format!(in alloc; "damage {fault}\n")?;
+    Ok(text)
+}
