@@ -1,4 +1,5 @@
 pub mod Fixed
+pub mod FixedAt
 pub mod Groups
 pub mod Reading
 pub mod Varints

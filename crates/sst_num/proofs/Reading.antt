@@ -1,11 +1,11 @@
 -- What is read from the front of a list is exactly the number whose spelling is there.
-use Rattle.std.proofs.Common.{◌≡◌, ℕ, zero, suc, ◌+◌, ◌-◌, ◌*◌, ◌^◌, ◌<◌, ◌≤◌, List, [], ◌∷◌, ◌++◌, length, length-append, drop, append_assoc, Option, Some, None, inl, inr, refl, sym, ap, ◌∙◌, arith}
+use Rattle.std.proofs.Common.{◌≡◌, ℕ, zero, suc, ◌+◌, ◌-◌, ◌*◌, ◌^◌, ◌<◌, ◌≤◌, List, [], ◌∷◌, ◌++◌, length, length-append, drop, append_assoc, Option, Some, None, inl, inr, nat_lt, option_and_then, refl, sym, subst, ap, ◌∙◌, arith}
 use Rattle.std.specs.Prelude.{IfSome, IfNone}
 use Rattle.std.proofs.Math.Seq.{drop-append_seam}
-use Rattle.std.proofs.lemmas.Bool.{cases_lt, lt-ltb, le-ltb}
-use Rattle.std.proofs.lemmas.Option.{none-some, some_pair_parts, option_and_then_some}
+use Rattle.std.proofs.lemmas.Bool.{cases_lt, lt-ltb, le-ltb, ltb-true}
+use Rattle.std.proofs.lemmas.Option.{none-some, cond_some, some_pair_parts, option_and_then_some}
 use Rattle.sst_num.specs.Spelling.{varint, IsVarint, handle_spelling}
-use Rattle.sst_num.specs.Reading.{with_group, groups_at, varint_at, varint32_at, handle_at, StartsWithVarint}
+use Rattle.sst_num.specs.Reading.{with_group, groups_at, varint_at, in_32_bits, varint32_at, handle_of, handle_at, StartsWithVarint, StartsWithHandle}
 use Rattle.sst_num.specs.declared.block_handle.Handle.{Handle}
 use Rattle.sst_num.proofs.Groups.{varint-some}
 use Rattle.sst_num.proofs.Varints.{IsVarint-more, varint-spells, varint-only}
@@ -118,6 +118,38 @@ handle_at-handle h rest offset_fits size_fits =
     let first = varint_at-varint h.offset (varint h.size ++ rest) offset_fits in
     let second = varint_at-varint h.size rest size_fits in
     rw (append_assoc (varint h.offset) (varint h.size) rest, first, drop-append_seam (varint h.offset) (varint h.size ++ rest), second, length-append (varint h.offset) (varint h.size)) refl
+
+-- what was read as 32 bits is below 2 ^ 32, and its one spelling is at the front
+pub varint32_at-found : (v used : ℕ) (bytes : List ℕ) → varint32_at bytes ≡ Some (v, used) → StartsWithVarint bytes v used × (v < 2 ^ 32)
+unfolding varint32_at
+varint32_at-found v used bytes read =
+    option_and_then_some in_32_bits (varint_at bytes) (v, used) read
+    (λ inner first last.
+    let parts = cond_some (nat_lt inner.0 (2 ^ 32)) inner (v, used) last in
+    let same : varint_at bytes ≡ Some (v, used) = first ∙ ap (λ (pair : ℕ × ℕ). Some pair) parts.1 in
+    let small : inner.0 < 2 ^ 32 = ltb-true inner.0 (2 ^ 32) parts.0 in
+    let number : inner.0 ≡ v = ap (λ (pair : ℕ × ℕ). pair.0) parts.1 in
+    ((varint_at-found v used bytes same).0, omega arith))
+
+-- the parts of a handle that was read are below 2 ^ 64, and its one spelling is at the front
+pub handle_at-found : (h : Handle) (used : ℕ) (bytes : List ℕ) → handle_at bytes ≡ Some (h, used)
+    → StartsWithHandle bytes h used × (h.offset < 2 ^ 64) × (h.size < 2 ^ 64)
+unfolding handle_at
+handle_at-found h used bytes read =
+    option_and_then_some (λ offset. option_and_then (λ size. Some (handle_of offset size)) (varint_at (drop offset.1 bytes))) (varint_at bytes) (h, used) read
+    (λ offset first later.
+    option_and_then_some (λ size. Some (handle_of offset size)) (varint_at (drop offset.1 bytes)) (h, used) later
+    (λ size second last.
+    let parts = some_pair_parts (record { offset = offset.0; size = size.0 }) h (offset.1 + size.1) used last in
+    let a = varint_at-found offset.0 offset.1 bytes first in
+    let b = varint_at-found size.0 size.1 (drop offset.1 bytes) second in
+    let left : drop offset.1 bytes ≡ a.0.0 =
+    ap (λ (k : ℕ). drop k bytes) a.0.2 ∙ ap (drop (length (varint offset.0))) a.0.1 ∙ drop-append_seam (varint offset.0) a.0.0 in
+    let joined : bytes ≡ (varint offset.0 ++ varint size.0) ++ b.0.0 =
+    a.0.1 ∙ ap (λ (tail : List ℕ). varint offset.0 ++ tail) (sym left ∙ b.0.1) ∙ sym (append_assoc (varint offset.0) (varint size.0) b.0.0) in
+    let takes : used ≡ length (varint offset.0 ++ varint size.0) = omega (arith, parts.1, a.0.2, b.0.2, length-append (varint offset.0) (varint size.0)) in
+    subst (λ (g : Handle). StartsWithHandle bytes g used × (g.offset < 2 ^ 64) × (g.size < 2 ^ 64)) parts.0
+    ((b.0.0, joined, takes), a.1, b.1)))
 
 -- what a reading that found a number says
 pub varint_at-if_some : (read : Option (ℕ × ℕ)) (bytes : List ℕ) → read ≡ varint_at bytes → IfSome read (λ f. f.1 ≤ length bytes) → IfSome read (λ f. StartsWithVarint bytes f.0 f.1 × (0 < f.1) × (f.1 ≤ length bytes))

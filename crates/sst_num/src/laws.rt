@@ -1,6 +1,6 @@
 ghost use Rattle.std.specs.Prelude.{◌≡◌, ℕ, ◌<◌, ◌≤◌, ◌^◌, List, ◌++◌, length, Some};
 ghost use Rattle.sst_num.specs.Spelling.{varint, fixed, fixed_value, handle_spelling, IsVarint};
-ghost use Rattle.sst_num.specs.Reading.{varint_at, varint32_at, handle_at};
+ghost use Rattle.sst_num.specs.Reading.{varint_at, varint32_at, handle_at, fixed_at};
 ghost use Rattle.sst_num.specs.declared.block_handle.Handle.{Handle};
 
 /// What is written for a number below 2^64 is a spelling of it, of at most ten bytes.
@@ -31,6 +31,13 @@ pub fn no_varint_begins_another()
 /// RocksDB: `EncodeFixed64` and `DecodeFixed64` in util/coding_lean.h.
 pub fn fixed_reads_back()
     ensures { (n v : ℕ) → v < 256 ^ n → fixed_value (fixed n v) ≡ v }
+{}
+
+/// What is written in `n` bytes for a number that fits them is read again, whatever follows.
+///
+/// RocksDB: `PutFixed32` and `DecodeFixed32`, and their kin, in util/coding.h and util/coding_lean.h.
+pub fn fixed_is_taken_again()
+    ensures { (n v : ℕ) (rest : List ℕ) → v < 256 ^ n → fixed_at n (fixed n v ++ rest) ≡ Some v }
 {}
 
 /// What is written for a number below 2^64 is taken again, whatever follows.

@@ -42,7 +42,7 @@
 //! - Each `take_` call reads the front of some bytes. It answers the value whose one spelling is there and
 //!   how many bytes that takes, or None exactly where there is none in range. What was put is taken again,
 //!   whatever follows ([`varint_is_taken_again`], [`varint32_is_taken_again`],
-//!   [`handle_is_taken_again`]).
+//!   [`handle_is_taken_again`], [`fixed_is_taken_again`]).
 //! - A varint takes at most ten bytes, is the only spelling of its number whose last byte isn't a needless
 //!   zero ([`varint_is_the_only_spelling`]), and begins no other ([`no_varint_begins_another`]). So
 //!   varints that follow one another need no mark between them.
@@ -67,8 +67,9 @@ mod tests;
 pub use block_handle::Handle;
 pub use byte_list::Bytes;
 pub use laws::{
-    fixed_reads_back, handle_is_taken_again, no_varint_begins_another, varint_is_taken_again,
-    varint_is_the_only_spelling, varint_is_the_spelling, varint32_is_taken_again,
+    fixed_is_taken_again, fixed_reads_back, handle_is_taken_again, no_varint_begins_another,
+    varint_is_taken_again, varint_is_the_only_spelling, varint_is_the_spelling,
+    varint32_is_taken_again,
 };
 pub use put::{put_fixed16, put_fixed32, put_fixed64, put_handle, put_varint32, put_varint64};
 pub use stops::{Memory, Refused, Stop};
