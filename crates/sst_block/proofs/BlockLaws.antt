@@ -9,7 +9,7 @@ use Rattle.sst_block.specs.Block.{Row, Spelled, Block, IsRow, AreOrdered, AreRes
 use Rattle.sst_block.specs.Chosen.{chosen, restarts_from, restarts_of, block_of}
 
 -- a row takes at least one byte
-row_spelling-some : (s : Spelled) → 0 < length (row_spelling s)
+pub row_spelling-some : (s : Spelled) → 0 < length (row_spelling s)
 row_spelling-some s = omega (arith, varint-some s.shared, length-append {A = ℕ})
 
 -- the rows that are spelled are those that were given
@@ -27,7 +27,7 @@ chosen-fronts interval i before [] = tt
 chosen-fronts interval i before (row ∷ rows) =
     (shared-within (i % interval == 0) (common before row.key), chosen-fronts interval (i + 1) row.key rows)
 
-All-one_if : (P : ℕ → Type 0) (test : Bool) (x : ℕ) → P x → All P (if test then x ∷ [] else [])
+pub All-one_if : (P : ℕ → Type 0) (test : Bool) (x : ℕ) → P x → All P (if test then x ∷ [] else [])
 All-one_if P true x holds = All-cons P x [] holds (All-nil P)
 All-one_if P false x holds = All-nil P
 
@@ -39,16 +39,16 @@ restarts-above interval i at low (s ∷ rest) h =
     (All-one_if (λ r. low < r) (i % interval == 0) at h)
     (restarts-above interval (i + 1) (at + length (row_spelling s)) low rest (omega arith))
 
--- a number below all of an increasing list may stand at its front
-rises-cons : (x : ℕ) (xs : List ℕ) → All (λ y. x < y) xs → IsStrictlyIncreasing xs
+-- a number below the first of an increasing list may stand at its front
+pub rises-cons : (x : ℕ) (xs : List ℕ) → (0 < length xs → x < get_or xs 0 0) → IsStrictlyIncreasing xs
     → (k : ℕ) → k + 1 < length (x ∷ xs) → get_or (x ∷ xs) k 0 < get_or (x ∷ xs) (k + 1) 0
-rises-cons x xs above rises zero within = above 0 0 (omega arith)
+rises-cons x xs above rises zero within = above (omega arith)
 rises-cons x xs above rises (suc k) within =
     let moved : suc k + 1 ≡ suc (k + 1) = omega arith in
     rw moved (rises k (omega arith))
 
 rises-one_if : (test : Bool) (x : ℕ) (xs : List ℕ) → All (λ y. x < y) xs → IsStrictlyIncreasing xs → IsStrictlyIncreasing ((if test then x ∷ [] else []) ++ xs)
-rises-one_if true x xs above rises = rises-cons x xs above rises
+rises-one_if true x xs above rises = rises-cons x xs (above 0 0) rises
 rises-one_if false x xs above rises = rises
 
 -- the restarts increase

@@ -5,7 +5,7 @@ use Rattle.std.proofs.lemmas.Bool.{eqb-true, eqb-false}
 use Rattle.std.proofs.lemmas.Bool.Decides.{nat_tests}
 use Rattle.sst_block.specs.Block.{common}
 
-common-same : (x y : ℕ) (a b : List ℕ) → x ≡ y → common (x ∷ a) (y ∷ b) ≡ suc (common a b)
+pub common-same : (x y : ℕ) (a b : List ℕ) → x ≡ y → common (x ∷ a) (y ∷ b) ≡ suc (common a b)
 common-same x y a b e = grind (arith, nat_tests)
 
 common-other : (x y : ℕ) (a b : List ℕ) → x ≢ y → common (x ∷ a) (y ∷ b) ≡ 0

@@ -1,6 +1,14 @@
 pub mod BlockLaws
+pub mod Follows
 pub mod Fronts
+pub mod BlockRead
 pub mod Held
 pub mod Kept
+pub mod OneReading
+pub mod RestartRules
+pub mod RestartsRead
+pub mod RowAt
+pub mod RowForms
+pub mod RowsRead
 pub mod Size
 pub mod Steps

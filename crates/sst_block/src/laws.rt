@@ -1,6 +1,9 @@
-ghost use Rattle.std.specs.Prelude.{ℕ, ◌<◌, ◌≤◌, ◌^◌, List, length, All};
+ghost use Rattle.std.specs.Prelude.{◌≡◌, ℕ, ◌<◌, ◌≤◌, ◌^◌, List, length, All, Err};
 ghost use Rattle.sst_block.specs.Block.{Row, Block, IsRow, AreOrdered};
+ghost use Rattle.sst_block.specs.Builder.{HasNoFlags};
 ghost use Rattle.sst_block.specs.Chosen.{block_of};
+ghost use Rattle.sst_block.specs.Reading.{block_read, Reads};
+ghost use Rattle.sst_block.specs.declared.fault.BlockFault.{BlockFault};
 ghost use Rattle.sst_block.specs.declared.row_form.RowForm.{RowForm};
 
 /// The block that a builder makes of some rows stands for these rows.
@@ -11,4 +14,30 @@ pub fn chosen_block_stands_for_its_rows()
     ensures { (form : RowForm) (interval : ℕ) (rows : List Row) → 0 < interval → All (IsRow form) rows
         → AreOrdered form rows → length (block_of interval rows) ≤ 2 ^ 29
         → Block form (block_of interval rows) rows }
+{}
+
+/// Reading a block finds exactly the rows that its bytes stand for.
+///
+/// What a block says is told by joined spellings and never by reading. `complete`: rows that the bytes stand for are
+/// read. `sound`: the bytes stand for rows that are read, if they are at most 2^29. It holds of each form whose keys
+/// are whole and whose handles stand as they are. RocksDB: `DecodeEntry` in table/block_based/block_util.h and
+/// `Block::NumRestarts` in table/block_based/block.cc.
+pub fn reading_finds_exactly_the_rows()
+    ensures complete { (form : RowForm) (bytes : List ℕ) (rows : List Row) → HasNoFlags form
+        → Block form bytes rows → Reads form bytes rows }
+    ensures sound { (form : RowForm) (bytes : List ℕ) (rows : List Row) → HasNoFlags form → length bytes ≤ 2 ^ 29
+        → Reads form bytes rows → Block form bytes rows }
+{}
+
+/// A block has one list of rows at most, whatever its form, and has none exactly where it reads as a fault.
+///
+/// `one`: the same bytes don't stand for two lists of rows. `none`: bytes that read as a fault stand for no rows.
+/// `fault`: bytes that stand for no rows read as a fault, if they are at most 2^29. RocksDB: the layout at the top of
+/// table/block_based/block_builder.cc, and `DecodeEntry` in table/block_based/block_util.h.
+pub fn a_block_has_one_list_of_rows()
+    ensures one { (form : RowForm) (bytes : List ℕ) (a b : List Row) → Block form bytes a → Block form bytes b → a ≡ b }
+    ensures none { (form : RowForm) (bytes : List ℕ) (fault : BlockFault) (rows : List Row) → HasNoFlags form
+        → block_read form bytes ≡ Err fault → Block form bytes rows → ⊥ }
+    ensures fault { (form : RowForm) (bytes : List ℕ) → HasNoFlags form → length bytes ≤ 2 ^ 29
+        → ((rows : List Row) → Block form bytes rows → ⊥) → (fault : BlockFault) × (block_read form bytes ≡ Err fault) }
 {}

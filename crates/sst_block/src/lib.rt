@@ -64,5 +64,7 @@ mod tests;
 
 pub use builder::BlockBuilder;
 pub use fault::BlockFault;
-pub use laws::chosen_block_stands_for_its_rows;
+pub use laws::{
+    a_block_has_one_list_of_rows, chosen_block_stands_for_its_rows, reading_finds_exactly_the_rows,
+};
 pub use row_form::RowForm;

@@ -1,0 +1,168 @@
+-- Reading a block finds exactly the rows that it has.
+use Rattle.std.proofs.Common.{◌≡◌, ℕ, ◌+◌, ◌-◌, ◌*◌, ◌^◌, ◌<◌, ◌≤◌, nat_lt, nat_le, true, List, [], ◌∷◌, ◌++◌, length, length-append, length-drop, take, drop, append_assoc, Option, Some, None, Result, Ok, All, inl, inr, refl, sym, subst, ap, ◌∙◌, arith}
+use Rattle.std.specs.List.{flat_map}
+use Rattle.std.proofs.lemmas.Bool.{cases_lt, lt-ltb, le-ltb, ltb-true, le-leb, leb-true, and_parts, and_from}
+use Rattle.std.proofs.lemmas.List.{take-append-drop, take_at, drop_at, drop-drop, drop_all}
+use Rattle.std.proofs.lemmas.Option.{none-some}
+use Rattle.sst_num.specs.Spelling.{fixed}
+use Rattle.sst_num.proofs.FixedAt.{fixed_at-joined}
+use Rattle.sst_block.specs.declared.row_form.RowForm.{RowForm}
+use Rattle.sst_block.specs.declared.fault.BlockFault.{BlockFault}
+use Rattle.sst_block.specs.Block.{Row, Spelled, Block, IsRow, AreOrdered, AreRestarts, row_spelling, fresh_starts, restarts_spelling}
+use Rattle.sst_block.specs.Builder.{HasNoFlags}
+use Rattle.sst_block.specs.Reading.{fits_in, number_where, restart_count, rows_end, rows_read, restarts_fault, unless, then_read, with_restarts, parts_read, block_read, Reads}
+use Rattle.sst_block.proofs.Steps.{length-restarts}
+use Rattle.sst_block.proofs.Follows.{Follows, rows_of, all-follow, followers}
+use Rattle.sst_block.proofs.RowsRead.{then_ok, unless_ok, rows_from-spelled, rows_from-found}
+use Rattle.sst_block.proofs.RestartsRead.{Rises, number_where-fixed, number_where-found, restarts_fault-spelled, restarts_fault-found}
+use Rattle.sst_block.proofs.RestartRules.{restarts-parts, restarts-from_parts, restarts-within}
+
+-- the count of the restarts is read from the end
+count-read : (xs ys : List ℕ) (count : ℕ) → length ys ≡ 4 * count → 0 < count → count < 2 ^ 32
+    → restart_count (xs ++ (ys ++ fixed 4 count)) ≡ Some count
+count-read xs ys count size some fits =
+    let bytes = xs ++ (ys ++ fixed 4 count) in
+    let a = length-append xs (ys ++ fixed 4 count) in
+    let b = length-append ys (fixed 4 count) in
+    let c = length-append xs ys in
+    let long : 8 ≤ length bytes = omega arith in
+    let at : length (xs ++ ys) ≡ length bytes - 4 = omega arith in
+    let last : drop (length bytes - 4) bytes ≡ fixed 4 count =
+    ap (drop (length bytes - 4)) (sym (append_assoc xs ys (fixed 4 count))) ∙ drop_at (xs ++ ys) (fixed 4 count) (length bytes - 4) at in
+    let good : fits_in (length bytes) count ≡ true =
+    and_from _ _ (lt-ltb 0 count some) (le-leb (4 * count + 4) (length bytes) (omega arith)) in
+    rw (le-ltb (length bytes) 8 long) (ap (number_where (fits_in (length bytes))) last ∙ number_where-fixed (fits_in (length bytes)) count [] fits good)
+
+-- what is read of rows, of restarts and of their count
+read-parts : (form : RowForm) (xs ys : List ℕ) (count : ℕ) (spelled : List Spelled) → length ys ≡ 4 * count → 0 < count → count < 2 ^ 32
+    → rows_read form xs ≡ Ok spelled → restarts_fault (fresh_starts 0 spelled) count (ys ++ fixed 4 count) ≡ None
+    → block_read form (xs ++ (ys ++ fixed 4 count)) ≡ Ok spelled
+unfolding block_read
+read-parts form xs ys count spelled size some fits reads none =
+    let tail = ys ++ fixed 4 count in
+    let bytes = xs ++ tail in
+    let whole : length bytes ≡ length xs + 4 * count + 4 = length-append xs tail ∙ omega (arith, length-append ys (fixed 4 count), size) in
+    let end : length xs ≡ rows_end bytes count = omega arith in
+    let front : take (rows_end bytes count) bytes ≡ xs = take_at xs tail (rows_end bytes count) end in
+    let back : drop (rows_end bytes count) bytes ≡ tail = drop_at xs tail (rows_end bytes count) end in
+    ap (parts_read form bytes) (count-read xs ys count size some fits)
+    ∙ ap (λ (t : List ℕ). then_read (rows_read form t) (with_restarts count (drop (rows_end bytes count) bytes))) front
+    ∙ ap (λ (r : Result (List Spelled) BlockFault). then_read r (with_restarts count (drop (rows_end bytes count) bytes))) reads
+    ∙ ap (λ (d : List ℕ). with_restarts count d spelled) back
+    ∙ ap (unless spelled) none
+
+-- rows and restarts that keep the rules are read again
+read-again : (form : RowForm) (spelled : List Spelled) (rest : List ℕ) → HasNoFlags form → Follows form None spelled
+    → Rises (fresh_starts 0 spelled) 0 rest → length (flat_map row_spelling spelled ++ restarts_spelling (0 ∷ rest)) ≤ 2 ^ 29
+    → block_read form (flat_map row_spelling spelled ++ restarts_spelling (0 ∷ rest)) ≡ Ok spelled
+unfolding rows_read
+read-again form spelled rest plain follows rises short =
+    let xs = flat_map row_spelling spelled in
+    let restarts = 0 ∷ rest in
+    let ys = flat_map (fixed 4) restarts in
+    let count = length restarts in
+    let size : length ys ≡ 4 * count = length-restarts restarts in
+    let whole : length (xs ++ restarts_spelling restarts) ≡ length xs + 4 * count + 4 =
+    length-append xs (restarts_spelling restarts) ∙ omega (arith, length-append ys (fixed 4 count), size) in
+    let reads = rows_from-spelled form spelled (length xs) 0 None plain follows (omega arith) (omega arith) in
+    let fit = restarts-within (2 ^ 32) rest spelled rises (omega arith) in
+    read-parts form xs ys count spelled size (omega arith) (omega arith) reads
+    (restarts_fault-spelled (fresh_starts 0 spelled) rest (fixed 4 count) rises fit)
+
+-- what a block has is read
+pub read-complete : (form : RowForm) (bytes : List ℕ) (rows : List Row) → HasNoFlags form → Block form bytes rows → Reads form bytes rows
+read-complete form bytes rows plain block =
+    let same : rows ≡ rows_of block.spelled = sym block.are_rows in
+    let forms = subst (λ (all : List Row). All (IsRow form) all) same block.forms in
+    let ordered = subst (λ (all : List Row). AreOrdered form all) same block.ordered in
+    let follows = all-follow form block.spelled block.fronts forms ordered in
+    let parts = restarts-parts block.restarts block.spelled block.places in
+    let spelling : bytes ≡ flat_map row_spelling block.spelled ++ restarts_spelling (0 ∷ parts.0) =
+    block.spelling ∙ ap (λ (restarts : List ℕ). flat_map row_spelling block.spelled ++ restarts_spelling restarts) parts.1 in
+    let short = subst (λ (all : List ℕ). length all ≤ 2 ^ 29) spelling block.short in
+    record {
+      spelled = block.spelled;
+      reads = ap (block_read form) spelling ∙ read-again form block.spelled parts.0 plain follows parts.2 short;
+      are_rows = block.are_rows;
+    }
+
+-- the count that was read stands at the end
+record CountFound (bytes : List ℕ) (count : ℕ) : Type 0 where
+  some : 0 < count
+  room : 4 * count + 4 ≤ length bytes
+  last : drop (length bytes - 4) bytes ≡ fixed 4 count
+
+count-found : (bytes : List ℕ) (count : ℕ) → restart_count bytes ≡ Some count → CountFound bytes count
+count-found bytes count is =
+    elim (cases_lt (length bytes) 8) [
+      | inl short ↦ absurd (none-some count (rw (lt-ltb (length bytes) 8 short) at is))
+      | inr long ↦
+          let end = drop (length bytes - 4) bytes in
+          let found = number_where-found (fits_in (length bytes)) count end (rw (le-ltb (length bytes) 8 long) at is) in
+          let tests = and_parts (nat_lt 0 count) (nat_le (4 * count + 4) (length bytes)) found.1 in
+          let four : length end ≡ 4 = length-drop (length bytes - 4) bytes ∙ omega arith in
+          record {
+            some = ltb-true 0 count tests.0;
+            room = leb-true (4 * count + 4) (length bytes) tests.1;
+            last = fixed_at-joined 4 count end found.0 ∙ ap (λ (xs : List ℕ). fixed 4 count ++ xs) (drop_all 4 end (omega arith));
+          }
+    ]
+
+parts-found : (form : RowForm) (bytes : List ℕ) (read : Option ℕ) (spelled : List Spelled) → parts_read form bytes read ≡ Ok spelled
+    → (count : ℕ) × (read ≡ Some count)
+    × (then_read (rows_read form (take (rows_end bytes count) bytes)) (with_restarts count (drop (rows_end bytes count) bytes)) ≡ Ok spelled)
+parts-found form bytes None spelled is = cc
+parts-found form bytes (Some count) spelled is = (count, refl, is)
+
+-- rows and restarts that were read stand in the bytes and keep the rules
+pub record BlockFound (form : RowForm) (bytes : List ℕ) (spelled : List Spelled) : Type 0 where
+  pub rest : List ℕ
+  pub spelling : bytes ≡ flat_map row_spelling spelled ++ restarts_spelling (0 ∷ rest)
+  pub follows : Follows form None spelled
+  pub places : AreRestarts (0 ∷ rest) spelled
+
+pub block-found : (form : RowForm) (bytes : List ℕ) (spelled : List Spelled) → HasNoFlags form → block_read form bytes ≡ Ok spelled
+    → BlockFound form bytes spelled
+unfolding block_read rows_read
+block-found form bytes spelled plain is =
+    let part = parts-found form bytes (restart_count bytes) spelled is in
+    let count : ℕ = part.0 in
+    let end = rows_end bytes count in
+    let tail = drop end bytes in
+    let footer = count-found bytes count part.1 in
+    then_ok (rows_read form (take end bytes)) (with_restarts count tail) spelled part.2
+    (λ x first last.
+    let tests = unless_ok x spelled (restarts_fault (fresh_starts 0 x) count tail) last in
+    let front = rows_from-found (length (take end bytes)) form 0 None (take end bytes) x plain (omega arith) first in
+    let found = restarts_fault-found count (fresh_starts 0 x) tail footer.some tests.0 in
+    let sum : end + 4 * count ≡ length bytes - 4 = omega (arith, footer.room) in
+    let last : drop (4 * count) tail ≡ fixed 4 (length (0 ∷ found.restarts)) =
+    drop-drop (4 * count) end bytes ∙ ap (λ (n : ℕ). drop n bytes) sum ∙ footer.last ∙ ap (fixed 4) (sym found.count) in
+    let back : tail ≡ restarts_spelling (0 ∷ found.restarts) = found.joined ∙ ap (λ (xs : List ℕ). flat_map (fixed 4) (0 ∷ found.restarts) ++ xs) last in
+    let spelling : bytes ≡ flat_map row_spelling x ++ restarts_spelling (0 ∷ found.restarts) =
+    sym (take-append-drop end bytes) ∙ ap (λ (xs : List ℕ). xs ++ tail) front.0 ∙ ap (λ (xs : List ℕ). flat_map row_spelling x ++ xs) back in
+    let block : BlockFound form bytes x = record {
+      rest = found.restarts;
+      spelling = spelling;
+      follows = front.1;
+      places = restarts-from_parts found.restarts x (followers form x front.1).0 found.rises;
+    } in
+    subst (λ (all : List Spelled). BlockFound form bytes all) tests.1 block)
+
+-- what is read the block has
+pub read-sound : (form : RowForm) (bytes : List ℕ) (rows : List Row) → HasNoFlags form → length bytes ≤ 2 ^ 29 → Reads form bytes rows
+    → Block form bytes rows
+read-sound form bytes rows plain short reads =
+    let found = block-found form bytes reads.spelled plain reads.reads in
+    let parts = followers form reads.spelled found.follows in
+    record {
+      spelled = reads.spelled;
+      restarts = 0 ∷ found.rest;
+      are_rows = reads.are_rows;
+      spelling = found.spelling;
+      fronts = parts.0;
+      places = found.places;
+      forms = subst (λ (all : List Row). All (IsRow form) all) reads.are_rows parts.1;
+      ordered = subst (λ (all : List Row). AreOrdered form all) reads.are_rows parts.2;
+      short = short;
+    }

@@ -1,0 +1,72 @@
+-- A block has one list of rows, whatever its form, and none where it reads as a fault.
+use Rattle.std.proofs.Common.{◌≡◌, ℕ, ◌^◌, ◌≤◌, true, false, List, [], ◌∷◌, length, map, Result, Ok, Err, refl, sym, ap, ◌∙◌}
+use Rattle.std.proofs.lemmas.List.Elements.{All-weaker}
+use Rattle.sst_block.specs.declared.row_form.RowForm.{RowForm}
+use Rattle.sst_block.specs.declared.row_form.RowForm.TheVariants.{Entries, Names, Index}
+use Rattle.sst_block.specs.declared.fault.BlockFault.{BlockFault}
+use Rattle.sst_block.specs.Block.{Row, Spelled, Block, IsRow, AreOrdered, key_cmp}
+use Rattle.sst_block.specs.Builder.{HasNoFlags}
+use Rattle.sst_block.specs.Reading.{block_read, Reads}
+use Rattle.sst_block.proofs.BlockRead.{read-complete, read-sound}
+
+-- what reads as a fault has no rows
+pub no-rows : (form : RowForm) (bytes : List ℕ) (fault : BlockFault) (rows : List Row) → HasNoFlags form
+    → block_read form bytes ≡ Err fault → Block form bytes rows → ⊥
+no-rows form bytes fault rows plain is block = let read = read-complete form bytes rows plain block in cc (is, read.reads)
+
+-- what has no rows reads as a fault
+fault-of : (form : RowForm) (bytes : List ℕ) (read : Result (List Spelled) BlockFault) → block_read form bytes ≡ read
+    → ((rows : List Row) → Reads form bytes rows → ⊥) → (fault : BlockFault) × (block_read form bytes ≡ Err fault)
+fault-of form bytes (Ok spelled) is none =
+    absurd (none (map (λ (s : Spelled). s.row) spelled) (record { spelled = spelled; reads = is; are_rows = refl }))
+fault-of form bytes (Err fault) is none = (fault, is)
+
+pub some-fault : (form : RowForm) (bytes : List ℕ) → HasNoFlags form → length bytes ≤ 2 ^ 29
+    → ((rows : List Row) → Block form bytes rows → ⊥) → (fault : BlockFault) × (block_read form bytes ≡ Err fault)
+some-fault form bytes plain short none =
+    fault-of form bytes (block_read form bytes) refl (λ rows reads. none rows (read-sound form bytes rows plain short reads))
+
+-- what was read is one list
+reads-one : (form : RowForm) (bytes : List ℕ) (a b : List Row) → Reads form bytes a → Reads form bytes b → a ≡ b
+reads-one form bytes a b left right =
+    let same : left.spelled ≡ right.spelled = cc (left.reads, right.reads) in
+    sym left.are_rows ∙ ap (λ (all : List Spelled). map (λ (s : Spelled). s.row) all) same ∙ right.are_rows
+
+plain-one : (form : RowForm) (bytes : List ℕ) (a b : List Row) → HasNoFlags form → Block form bytes a → Block form bytes b → a ≡ b
+plain-one form bytes a b plain left right =
+    reads-one form bytes a b (read-complete form bytes a plain left) (read-complete form bytes b plain right)
+
+-- rows that are in order by one form's order are so by an equal one
+ordered-as : (form other : RowForm) (rows : List Row) → ((a b : List ℕ) → key_cmp form a b ≡ key_cmp other a b)
+    → AreOrdered form rows → AreOrdered other rows
+ordered-as form other [] same ordered = tt
+ordered-as form other (a ∷ []) same ordered = tt
+ordered-as form other (a ∷ b ∷ rest) same ordered =
+    (sym (same a.key b.key) ∙ ordered.0, ordered-as form other (b ∷ rest) same ordered.1)
+
+-- a block of one form is one of another that has the same order and asks no more
+block-as : (form other : RowForm) (bytes : List ℕ) (rows : List Row) → ((a b : List ℕ) → key_cmp form a b ≡ key_cmp other a b)
+    → ((row : Row) → IsRow form row → IsRow other row) → Block form bytes rows → Block other bytes rows
+block-as form other bytes rows same weaker block = record {
+  spelled = block.spelled;
+  restarts = block.restarts;
+  are_rows = block.are_rows;
+  spelling = block.spelling;
+  fronts = block.fronts;
+  places = block.places;
+  forms = All-weaker (IsRow form) (IsRow other) weaker rows block.forms;
+  ordered = ordered-as form other rows same block.ordered;
+  short = block.short;
+}
+
+-- a block of any form has one list of rows
+pub one-list : (form : RowForm) (bytes : List ℕ) (a b : List Row) → Block form bytes a → Block form bytes b → a ≡ b
+one-list Entries bytes a b left right = plain-one Entries bytes a b tt left right
+one-list Names bytes a b left right = plain-one Names bytes a b tt left right
+one-list (Index false false) bytes a b left right = plain-one (Index false false) bytes a b tt left right
+one-list (Index false true) bytes a b left right =
+    let plain = λ (rows : List Row). block-as (Index false true) (Index false false) bytes rows (λ a b. refl) (λ row is. is) in
+    plain-one (Index false false) bytes a b tt (plain a left) (plain b right)
+one-list (Index true delta) bytes a b left right =
+    let plain = λ (rows : List Row). block-as (Index true delta) Names bytes rows (λ a b. refl) (λ row is. (is.0, tt)) in
+    plain-one Names bytes a b tt (plain a left) (plain b right)

@@ -1,0 +1,109 @@
+-- The rows that are read of some bytes are exactly the rows that are spelled there, each of which may follow the one
+-- before it.
+use Rattle.std.proofs.Common.{◌≡◌, ℕ, zero, suc, ◌+◌, ◌^◌, ◌<◌, ◌≤◌, true, List, [], ◌∷◌, ◌++◌, length, length-append, length-drop, drop, Option, Some, None, Result, Ok, Err, refl, sym, subst, ap, ◌∙◌, arith}
+use Rattle.std.specs.List.{flat_map}
+use Rattle.std.proofs.Math.Seq.{drop-append_seam}
+use Rattle.sst_block.specs.declared.row_form.RowForm.{RowForm}
+use Rattle.sst_block.specs.declared.fault.BlockFault.{BlockFault}
+use Rattle.sst_block.specs.Block.{Spelled, common, row_spelling, IsRow}
+use Rattle.sst_block.specs.Builder.{HasNoFlags}
+use Rattle.sst_block.specs.Reading.{is_after, row_fault, key_before, unless, then_read, sound_row, row_at, row_read, onto_rows, rows_from}
+use Rattle.sst_block.proofs.BlockLaws.{row_spelling-some}
+use Rattle.sst_block.proofs.Follows.{Follows}
+use Rattle.sst_block.proofs.RowAt.{value-within, row_at-spelled, row_at-found, RowStands}
+use Rattle.sst_block.proofs.RowForms.{row-passes, row-from}
+
+-- a row that may follow is read again, whatever comes after it
+row_read-spelled : (form : RowForm) (at : ℕ) (before : Option (List ℕ)) (after : List ℕ) (s : Spelled) → HasNoFlags form
+    → s.shared ≤ common (key_before before) s.row.key → IsRow form s.row → is_after form before s.row.key ≡ true
+    → length s.row.value < 2 ^ 32 → row_read form at before (row_spelling s ++ after) ≡ Ok (s, length (row_spelling s))
+unfolding row_read
+row_read-spelled form at before after s plain shares is_row follows fits =
+    ap (sound_row form at before) (row_at-spelled (key_before before) after s shares is_row.0 fits)
+    ∙ ap (unless (s, length (row_spelling s))) (row-passes form at before s.row plain is_row.1 follows)
+
+-- one step of reading where bytes are left
+rows_from-step : (n : ℕ) (form : RowForm) (at : ℕ) (before : Option (List ℕ)) (bytes : List ℕ) → 0 < length bytes
+    → rows_from (suc n) form at before bytes ≡ then_read (row_read form at before bytes)
+    (λ read. onto_rows read.0 (rows_from n form (at + read.1) (Some read.0.row.key) (drop read.1 bytes)))
+rows_from-step n form at before [] some = absurd (omega arith)
+rows_from-step n form at before (b ∷ bytes) some = refl
+
+rows_from-none : (n : ℕ) (form : RowForm) (at : ℕ) (before : Option (List ℕ)) → rows_from n form at before [] ≡ Ok []
+rows_from-none zero form at before = refl
+rows_from-none (suc n) form at before = refl
+
+-- rows that may follow one another are read again
+pub rows_from-spelled : (form : RowForm) (spelled : List Spelled) (n at : ℕ) (before : Option (List ℕ)) → HasNoFlags form
+    → Follows form before spelled → length (flat_map row_spelling spelled) ≤ n → n < 2 ^ 32
+    → rows_from n form at before (flat_map row_spelling spelled) ≡ Ok spelled
+rows_from-spelled form [] n at before plain follows within fits = rows_from-none n form at before
+rows_from-spelled form (s ∷ rest) zero at before plain follows within fits =
+    absurd (omega (arith, within, row_spelling-some s, length-append (row_spelling s) (flat_map row_spelling rest)))
+rows_from-spelled form (s ∷ rest) (suc n) at before plain follows within fits =
+    let others = flat_map row_spelling rest in
+    let size = length-append (row_spelling s) others in
+    let one = row_spelling-some s in
+    let value = value-within s in
+    let here = row_read-spelled form at before others s plain follows.0 follows.1 follows.2 (omega arith) in
+    let later = rows_from-spelled form rest n (at + length (row_spelling s)) (Some s.row.key) plain follows.3 (omega arith) (omega arith) in
+    rw (rows_from-step n form at before (row_spelling s ++ others) (omega arith), here, drop-append_seam (row_spelling s) others, later) refl
+
+-- a value behind a step that found no fault
+pub then_ok : {A B P : Type 0} (r : Result A BlockFault) (next : A → Result B BlockFault) (y : B) → then_read r next ≡ Ok y
+    → ((x : A) → r ≡ Ok x → next x ≡ Ok y → P) → P
+then_ok (Ok x) next y is use' = use' x refl is
+then_ok (Err fault) next y is use' = cc
+
+pub then_err : {A B P : Type 0} (r : Result A BlockFault) (next : A → Result B BlockFault) (fault : BlockFault) → then_read r next ≡ Err fault
+    → (r ≡ Err fault → P) → ((x : A) → r ≡ Ok x → next x ≡ Err fault → P) → P
+then_err (Ok x) next fault is here later = later x refl is
+then_err (Err f) next fault is here later = here cc
+
+pub unless_ok : {A : Type 0} (x y : A) (o : Option BlockFault) → unless x o ≡ Ok y → (o ≡ None) × (x ≡ y)
+unless_ok x y None is = (refl, cc)
+unless_ok x y (Some fault) is = cc
+
+sound_row-ok : (form : RowForm) (at : ℕ) (before : Option (List ℕ)) (read : Option (Spelled × ℕ)) (r : Spelled × ℕ)
+    → sound_row form at before read ≡ Ok r → (read ≡ Some r) × (row_fault form at before r.0.row ≡ None)
+sound_row-ok form at before None r is = cc
+sound_row-ok form at before (Some x) r is =
+    let parts = unless_ok x r (row_fault form at before x.0.row) is in
+    (ap Some parts.1, sym (ap (λ (p : Spelled × ℕ). row_fault form at before p.0.row) parts.1) ∙ parts.0)
+
+-- a row that was read stands at the front of the bytes, and may follow
+pub record RowFound (form : RowForm) (before : Option (List ℕ)) (bytes : List ℕ) (read : Spelled × ℕ) : Type 0 where
+  pub stands : RowStands (key_before before) bytes read.0 read.1
+  pub is_row : IsRow form read.0.row
+  pub follows : is_after form before read.0.row.key ≡ true
+
+pub row_read-found : (form : RowForm) (at : ℕ) (before : Option (List ℕ)) (bytes : List ℕ) (read : Spelled × ℕ) → HasNoFlags form
+    → row_read form at before bytes ≡ Ok read → RowFound form before bytes read
+unfolding row_read
+row_read-found form at before bytes read plain is =
+    let parts = sound_row-ok form at before (row_at (key_before before) bytes) read is in
+    let stands = row_at-found (key_before before) bytes read.0 read.1 parts.0 in
+    let good = row-from form at before read.0.row plain parts.1 in
+    record { stands = stands; is_row = (stands.short, good.0); follows = good.1 }
+
+-- rows that were read are spelled in the bytes, and may follow one another
+pub rows_from-found : (n : ℕ) (form : RowForm) (at : ℕ) (before : Option (List ℕ)) (bytes : List ℕ) (spelled : List Spelled)
+    → HasNoFlags form → length bytes ≤ n → rows_from n form at before bytes ≡ Ok spelled
+    → (bytes ≡ flat_map row_spelling spelled) × Follows form before spelled
+rows_from-found zero form at before [] spelled plain within is = let none : [] ≡ spelled = cc in subst (λ (all : List Spelled). ([] ≡ flat_map row_spelling all) × Follows form before all) none (refl, tt)
+rows_from-found zero form at before (b ∷ bytes) spelled plain within is = absurd (omega arith)
+rows_from-found (suc n) form at before [] spelled plain within is = let none : [] ≡ spelled = cc in subst (λ (all : List Spelled). ([] ≡ flat_map row_spelling all) × Follows form before all) none (refl, tt)
+rows_from-found (suc n) form at before (b ∷ bytes) spelled plain within is =
+    then_ok (row_read form at before (b ∷ bytes))
+    (λ read. onto_rows read.0 (rows_from n form (at + read.1) (Some read.0.row.key) (drop read.1 (b ∷ bytes)))) spelled is
+    (λ read first later.
+    then_ok (rows_from n form (at + read.1) (Some read.0.row.key) (drop read.1 (b ∷ bytes))) (λ (rows : List Spelled). Ok (read.0 ∷ rows)) spelled later
+    (λ rows others joined.
+    let found = row_read-found form at before (b ∷ bytes) read plain first in
+    let less : length (drop read.1 (b ∷ bytes)) ≤ n = omega (arith, length-drop read.1 (b ∷ bytes), found.stands.some) in
+    let rest = rows_from-found n form (at + read.1) (Some read.0.row.key) (drop read.1 (b ∷ bytes)) rows plain less others in
+    let whole : b ∷ bytes ≡ row_spelling read.0 ++ flat_map row_spelling rows =
+    found.stands.joined ∙ ap (λ (xs : List ℕ). row_spelling read.0 ++ xs) rest.0 in
+    let all : read.0 ∷ rows ≡ spelled = cc in
+    subst (λ (xs : List Spelled). (b ∷ bytes ≡ flat_map row_spelling xs) × Follows form before xs) all
+    (whole, (found.stands.shares, found.is_row, found.follows, rest.1))))
