@@ -86,6 +86,7 @@ mod lines;
 mod list_search;
 pub mod load;
 mod meta_fault;
+mod opening_laws;
 mod produce;
 mod program;
 mod reading;
@@ -98,4 +99,8 @@ pub use bbt_fault::BbtFault;
 pub use footer::Footer;
 pub use laws::{a_list_reads_back, an_entry_line_reads_back, written_file_stands_for_its_list};
 pub use meta_fault::MetaFault;
+pub use opening_laws::{
+    a_file_opens_to_its_rows, a_file_stands_for_one_list, a_footer_is_read, a_stored_block_is_read,
+    what_opens_is_ordered,
+};
 pub use program::{Status, run};

@@ -1,0 +1,60 @@
+//! What a file reads as is what it stands for.
+ghost use Rattle.std.specs.Prelude.{◌≡◌, ℕ, ◌-◌, List, length, All, Ok, Err};
+ghost use Rattle.hex.specs.Hex.{IsBytes};
+ghost use Rattle.sst_num.specs.declared.block_handle.Handle.{Handle};
+ghost use Rattle.sst_cli.specs.Framed.{Framed};
+ghost use Rattle.sst_cli.specs.FrameReading.{frame_read};
+ghost use Rattle.sst_cli.specs.FooterReading.{footer_read, last_bytes};
+ghost use Rattle.sst_key.specs.declared.entries.Entry.{Entry};
+ghost use Rattle.sst_key.specs.Entry.{IsOrdered};
+ghost use Rattle.sst_block.specs.Block.{Row};
+ghost use Rattle.sst_cli.specs.BlockBased.{BlockBased, HasSeq, Opens, rows_of};
+ghost use Rattle.sst_cli.specs.Opening.{open_read};
+ghost use Rattle.sst_cli.specs.Shows.{FooterLeads, ShowsMeta};
+ghost use Rattle.sst_cli.specs.declared.meta_fault.MetaFault.{MetaFault};
+ghost use Rattle.sst_cli.specs.declared.footer.Footer.{Footer};
+
+/// What is read at a block handle is exactly the block that is stored there.
+///
+/// `end` is the file's length without its footer.
+/// RocksDB: `BlockFetcher::ReadBlockContents` in table/block_fetcher.cc.
+pub fn a_stored_block_is_read()
+    ensures complete { (file : List ℕ) (end : ℕ) (h : Handle) (block : List ℕ) → Framed file end h block → frame_read file end h ≡ Ok block }
+    ensures sound { (file : List ℕ) (end : ℕ) (h : Handle) (block : List ℕ) → frame_read file end h ≡ Ok block → Framed file end h block }
+{}
+
+/// What the last 53 bytes of a file are read as is what the file's footer says.
+///
+/// RocksDB: `Footer::DecodeFrom` in table/format.cc.
+pub fn a_footer_is_read()
+    ensures complete { (file : List ℕ) (footer : Footer) → FooterLeads file (length file - 53) footer.metaindex footer.index → footer_read (last_bytes 53 file) ≡ Ok footer }
+    ensures sound { (file : List ℕ) (footer : Footer) → footer_read (last_bytes 53 file) ≡ Ok footer → FooterLeads file (length file - 53) footer.metaindex footer.index }
+    ensures faults { (file : List ℕ) (fault : MetaFault) → IsBytes file → footer_read (last_bytes 53 file) ≡ Err fault → ShowsMeta file fault }
+{}
+
+/// A file opens to a list of entries exactly where it reads as their rows.
+///
+/// What a file opens to is told by its footer, its blocks and the joined spellings of their rows, and never by
+/// reading. `complete`: the rows of a list that a file opens to are read. `sound`: a file opens to a list that has
+/// the rows which are read.
+/// RocksDB: `BlockBasedTable::Open` in table/block_based/block_based_table_reader.cc.
+pub fn a_file_opens_to_its_rows()
+    ensures complete { (file : List ℕ) (entries : List Entry) → Opens file entries → open_read file ≡ Ok (rows_of entries) }
+    ensures sound { (file : List ℕ) (rows : List Row) → open_read file ≡ Ok rows → (entries : List Entry) × (rows ≡ rows_of entries) × Opens file entries }
+{}
+
+/// The entries that a file opens to are in order, and their sequence numbers are below 2^56.
+///
+/// RocksDB: `InternalKeyComparator::Compare` and `kMaxSequenceNumber` in db/dbformat.h.
+pub fn what_opens_is_ordered()
+    ensures ordered { (file : List ℕ) (entries : List Entry) → Opens file entries → IsOrdered entries }
+    ensures seqs { (file : List ℕ) (entries : List Entry) → Opens file entries → All HasSeq entries }
+{}
+
+/// A file opens to one list of entries at most, and so stands for one at most.
+///
+/// RocksDB: wiki page "Rocksdb BlockBasedTable Format".
+pub fn a_file_stands_for_one_list()
+    ensures opens { (file : List ℕ) (a b : List Entry) → Opens file a → Opens file b → a ≡ b }
+    ensures stands { (file : List ℕ) (a b : List Entry) → BlockBased file a → BlockBased file b → a ≡ b }
+{}
