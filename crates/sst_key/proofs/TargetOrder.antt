@@ -88,28 +88,20 @@ seq-from_tag s t k l h = let a = kind_number-small k in let b = kind_number-smal
 users : IsTotalOrder (slice_cmp nat_cmp)
 users = nat_list_cmp_total
 
--- what is before an entry that is before the target is before the target
-words-before : (user : List ℕ) (seq : ℕ) (a b : Entry) → IsBefore a b → IsBeforeTarget user seq b → IsBeforeTarget user seq a
-words-before user seq a b (inl less) (inl next) = inl (users.trans a.user b.user user less next)
-words-before user seq a b (inl less) (inr next) = inl (sym (ap (slice_cmp nat_cmp a.user) next.0) ∙ less)
-words-before user seq a b (inr same) (inl next) = inl (ap (λ (u : List ℕ). slice_cmp nat_cmp u user) same.0 ∙ next)
-words-before user seq a b (inr same) (inr next) =
-    let more = seq-from_tag b.seq a.seq b.kind a.kind same.1 in
-    inr (same.0 ∙ next.0, omega (arith, next.1))
-
-words-up_to : (user : List ℕ) (seq : ℕ) (a b : Entry) → IsBefore a b → IsUpToTarget user seq b → IsUpToTarget user seq a
-words-up_to user seq a b (inl less) (inl next) = inl (users.trans a.user b.user user less next)
-words-up_to user seq a b (inl less) (inr next) = inl (sym (ap (slice_cmp nat_cmp a.user) next.0) ∙ less)
-words-up_to user seq a b (inr same) (inl next) = inl (ap (λ (u : List ℕ). slice_cmp nat_cmp u user) same.0 ∙ next)
-words-up_to user seq a b (inr same) (inr next) =
-    let more = seq-from_tag b.seq a.seq b.kind a.kind same.1 in
-    inr (same.0 ∙ next.0, omega (arith, next.1))
+-- what is before an entry that is before the target, or up to it, is so too: `Newer` says what the sequence number is
+words-ahead : (Newer : ℕ → Type 0) → ((m n : ℕ) → m ≤ n → Newer m → Newer n) → (user : List ℕ) (a b : Entry) → IsBefore a b
+    → (slice_cmp nat_cmp b.user user ≡ Less) ⊎ ((b.user ≡ user) × Newer b.seq) → (slice_cmp nat_cmp a.user user ≡ Less) ⊎ ((a.user ≡ user) × Newer a.seq)
+words-ahead Newer grows user a b (inl less) (inl next) = inl (users.trans a.user b.user user less next)
+words-ahead Newer grows user a b (inl less) (inr next) = inl (sym (ap (slice_cmp nat_cmp a.user) next.0) ∙ less)
+words-ahead Newer grows user a b (inr same) (inl next) = inl (ap (λ (u : List ℕ). slice_cmp nat_cmp u user) same.0 ∙ next)
+words-ahead Newer grows user a b (inr same) (inr next) =
+    inr (same.0 ∙ next.0, grows b.seq a.seq (seq-from_tag b.seq a.seq b.kind a.kind same.1) next.1)
 
 pub before-ahead : (user : List ℕ) (seq : ℕ) (a b : Entry) → IsBefore a b → is_before_target user seq b ≡ true → is_before_target user seq a ≡ true
-before-ahead user seq a b before h = before-from_words user seq a (words-before user seq a b before (before-in_words user seq b h))
+before-ahead user seq a b before h = before-from_words user seq a (words-ahead (λ n. seq < n) (λ m n more h. omega arith) user a b before (before-in_words user seq b h))
 
 pub up_to-ahead : (user : List ℕ) (seq : ℕ) (a b : Entry) → IsBefore a b → is_up_to_target user seq b ≡ true → is_up_to_target user seq a ≡ true
-up_to-ahead user seq a b before h = up_to-from_words user seq a (words-up_to user seq a b before (up_to-in_words user seq b h))
+up_to-ahead user seq a b before h = up_to-from_words user seq a (words-ahead (λ n. seq ≤ n) (λ m n more h. omega arith) user a b before (up_to-in_words user seq b h))
 
 pub IsBefore-trans : (a b c : Entry) → IsBefore a b → IsBefore b c → IsBefore a c
 IsBefore-trans a b c (inl less) (inl next) = inl (users.trans a.user b.user c.user less next)

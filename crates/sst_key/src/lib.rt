@@ -18,6 +18,16 @@
 //! Entries are ordered by their user keys, bytewise. Among equal user keys the greater tag comes first, and so
 //! the newer entry before the older.
 //!
+//! # The list machine
+//!
+//! A table is a list of entries in this order, and a position in it: the number of an entry, or nowhere. That alone
+//! says what the seven calls answer. Get shows the newest entry of a user key that a snapshot sees, and the position
+//! stays. The other six move: First, Last, Seek and SeekForPrev from anywhere, Next and Prev from an entry. A move
+//! shows the entry where it lands; one that lands nowhere shows none.
+//!
+//! Plain tables lack Last, SeekForPrev and Prev, and cuckoo tables SeekForPrev; a call that is lacking leaves the
+//! position. A plain table whose prefixes have a length shows no entry of another prefix at a Seek.
+//!
 //! # Example
 //!
 //! A value of the user key `a` (61) at sequence number 1 has the tag 257, and its internal key is:
@@ -39,9 +49,18 @@
 //! - A [`KeyRoom`] holds one internal key after another. It takes memory when it is made, and none later.
 //! - [`cmp_internal`] compares internal keys as the order says, and takes no memory.
 //! - The order of internal keys is the order of their entries ([`internal_order_is_entry_order`]).
+//! - [`answer`] answers a call as the list machine does. It counts through the whole list, where a reader is to
+//!   search, and takes no memory.
+//! - In an ordered list Seek lands at the first entry that isn't before its target
+//!   ([`seek_lands_on_the_first_not_before`]), SeekForPrev at the last that is up to it
+//!   ([`seek_for_prev_lands_on_the_last_up_to`]), and Get shows the newest entry that the snapshot sees
+//!   ([`get_shows_the_newest`]). What a snapshot sees is what the Gets at it show ([`visible_is_what_gets_show`]).
+//! - First and then Next go through the whole list ([`first_and_next_go_through`]), and Last and then Prev back
+//!   ([`last_and_prev_go_back`]).
 //!
 //! RocksDB: db/dbformat.h (`ValueType`, `PackSequenceAndType`, `ParseInternalKey`,
-//! `InternalKeyComparator`) and db/dbformat.cc (`AppendInternalKey`).
+//! `InternalKeyComparator`), db/dbformat.cc (`AppendInternalKey`), include/rocksdb/iterator.h (`Iterator`) and
+//! include/rocksdb/db.h (`DB::Get`).
 #![tactic(auto)]
 
 mod calls;
@@ -62,8 +81,9 @@ pub use entries::{Entry, EntryView, Kind};
 pub use faults::WriteFault;
 pub use keys::{cmp_internal, internal_order_is_entry_order, pack};
 pub use list_laws::{
-    first_and_next_go_through, get_shows_the_newest, seek_for_prev_lands_on_the_last_up_to,
-    seek_lands_on_the_first_not_before, targets_compare_as_said, visible_is_what_gets_show,
+    first_and_next_go_through, get_shows_the_newest, last_and_prev_go_back,
+    seek_for_prev_lands_on_the_last_up_to, seek_lands_on_the_first_not_before,
+    targets_compare_as_said, visible_is_what_gets_show,
 };
 pub use list_machine::{answer, target_cmp};
 pub use reading::{packed_is_unpacked, unpack};

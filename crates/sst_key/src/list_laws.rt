@@ -1,10 +1,10 @@
-ghost use Rattle.std.specs.Prelude.{◌≡◌, ℕ, ◌<◌, ◌≤◌, ◌↔◌, Option, Some, None, List, [], ◌∷◌, ◌++◌, length, map, replicate, slice_get, IsTrue, Contains, AllPairs};
+ghost use Rattle.std.specs.Prelude.{◌≡◌, ℕ, ◌<◌, ◌≤◌, ◌↔◌, Option, Some, None, List, [], ◌∷◌, ◌++◌, length, map, replicate, reverse, false, slice_get, IsTrue, Contains, AllPairs};
 ghost use Rattle.sst_key.specs.Entry.{IsOrdered, tag};
-ghost use Rattle.sst_key.specs.ListMachine.{is_before_target, is_up_to_target, seek_of, seek_for_prev_of, get_of, lands, replies_from, visible};
+ghost use Rattle.sst_key.specs.ListMachine.{is_before_target, is_up_to_target, seek_of, seek_for_prev_of, get_of, lacks, lands, replies_from, visible};
 ghost use Rattle.sst_key.specs.ListLaws.{IsBeforeTarget, IsUpToTarget, IsSeen, StandsAt, IsFirstPlace, Each, EachAhead, EachBehind};
 ghost use Rattle.sst_key.specs.declared.entries.Entry.{Entry};
 ghost use Rattle.sst_key.specs.declared.calls.Format.{Format};
-ghost use Rattle.sst_key.specs.declared.calls.Call.TheVariants.{First, Next};
+ghost use Rattle.sst_key.specs.declared.calls.Call.TheVariants.{First, Last, Next, Prev};
 ghost use Rattle.std.specs.List.{range_with_len};
 
 /// What stands before a target: the entries of lesser user keys, and of the target's own user key the newer ones.
@@ -61,6 +61,16 @@ pub fn first_and_next_go_through()
     ensures { (format : Format) (prefix : ℕ) (entries : List Entry) (position : Option ℕ)
         → replies_from format prefix entries position (First ∷ replicate (length entries) Next)
         ≡ map (λ i. lands (Some i)) (range_with_len 0 (length entries)) ++ lands None ∷ [] }
+{}
+
+/// Last and then Prev go back through the whole list, in each format that has them: as many calls as it has entries
+/// show them all from the last to the first, and the next call shows none and leaves the position nowhere.
+///
+/// RocksDB: `Iterator::SeekToLast` and `Iterator::Prev` in include/rocksdb/iterator.h.
+pub fn last_and_prev_go_back()
+    ensures { (format : Format) (prefix : ℕ) (entries : List Entry) (position : Option ℕ) → lacks format Prev ≡ false
+        → replies_from format prefix entries position (Last ∷ replicate (length entries) Prev)
+        ≡ reverse (map (λ i. lands (Some i)) (range_with_len 0 (length entries))) ++ lands None ∷ [] }
 {}
 
 /// What a snapshot sees of a list is what the Gets at it show, and of each user key it is one entry at most.

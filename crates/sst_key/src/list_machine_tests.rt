@@ -126,30 +126,22 @@ fn no_entries(rt: HostRuntime) -> Result<(), Fail> {
     Ok(())
 }
 
-// What plain and cuckoo tables lack, and a plain table's prefixes of two bytes.
+// What a plain table lacks, and its prefixes of two bytes.
 #[test]
-fn other_formats(rt: HostRuntime) -> Result<(), Fail> {
+fn a_plain_table(rt: HostRuntime) -> Result<(), Fail> {
     let entries = &[
         entry(rt.alloc(), b"abX", 0)?,
         entry(rt.alloc(), b"abY", 0)?,
         entry(rt.alloc(), b"abZ", 0)?,
     ];
-    assert_eq!(rt;
-        answer(entries, Format::Plain, 2, None, &Call::First),
-        at(0)
-    );
-    assert_eq!(rt;
-        answer(entries, Format::Plain, 2, Some(0), &Call::Prev),
-        nothing(Reply::Lacks, Some(0))
-    );
-    assert_eq!(rt;
-        answer(entries, Format::Plain, 2, None, &Call::Last),
-        nothing(Reply::Lacks, None)
-    );
-    assert_eq!(rt;
-        answer(entries, Format::Plain, 2, Some(0), &Call::Next),
-        at(1)
-    );
+    for (position, call, said) in [
+        (None, Call::First, at(0)),
+        (Some(0), Call::Prev, nothing(Reply::Lacks, Some(0))),
+        (None, Call::Last, nothing(Reply::Lacks, None)),
+        (Some(0), Call::Next, at(1)),
+    ] {
+        assert_eq!(rt; answer(entries, Format::Plain, 2, position, &call), said);
+    }
     let other = Call::Seek(target(rt.alloc(), b"aa", 9)?);
     assert_eq!(rt;
         answer(entries, Format::Plain, 2, Some(0), &other),
@@ -163,18 +155,25 @@ fn other_formats(rt: HostRuntime) -> Result<(), Fail> {
         answer(entries, Format::Plain, 2, None, &short),
         nothing(Reply::None, None)
     );
+    Ok(())
+}
+
+// What a cuckoo table lacks.
+#[test]
+fn a_cuckoo_table(rt: HostRuntime) -> Result<(), Fail> {
+    let entries = &[entry(rt.alloc(), b"abX", 0)?, entry(rt.alloc(), b"abY", 0)?];
     assert_eq!(rt;
         answer(entries, Format::Cuckoo, 0, None, &Call::Last),
-        at(2)
+        at(1)
     );
     let back = Call::SeekForPrev(target(rt.alloc(), b"a", 0)?);
     assert_eq!(rt;
-        answer(entries, Format::Cuckoo, 0, Some(2), &back),
-        nothing(Reply::Lacks, Some(2))
+        answer(entries, Format::Cuckoo, 0, Some(1), &back),
+        nothing(Reply::Lacks, Some(1))
     );
     assert_eq!(rt;
-        answer(entries, Format::Cuckoo, 0, Some(2), &Call::Prev),
-        at(1)
+        answer(entries, Format::Cuckoo, 0, Some(1), &Call::Prev),
+        at(0)
     );
     Ok(())
 }
