@@ -16,7 +16,7 @@ use Rattle.sst_cli.proofs.FieldBytes.{IsStop, hex_text-avoids, decimal-avoids, l
 use Rattle.sst_cli.specs.EntryText.{hex_text, kind_letter, entry_line}
 
 -- a user key or a value reads back
-bytes_field-hex_text : (bytes : List ℕ) → IsBytes bytes → bytes_field (hex_text bytes) ≡ Some bytes
+pub bytes_field-hex_text : (bytes : List ℕ) → IsBytes bytes → bytes_field (hex_text bytes) ≡ Some bytes
 unfolding encode_with
 bytes_field-hex_text [] are = refl
 bytes_field-hex_text (b ∷ rest) are = ap result_ok (decode_of-encode_lower (b ∷ rest) are)
@@ -73,7 +73,7 @@ seq_field-spelled n (c ∷ d ∷ rest) reads h some no_zero =
     let other = ne_eqb c 48 (no_zero (omega arith)) in
     rw other (ap (option_and_then in_range) reads ∙ in_range-some n h)
 
-seq_field-decimal : (n : ℕ) → n < 2 ^ 56 → seq_field (decimal n) ≡ Some n
+pub seq_field-decimal : (n : ℕ) → n < 2 ^ 56 → seq_field (decimal n) ≡ Some n
 seq_field-decimal n h =
     let fits : n < 2 ^ 64 = omega arith in
     seq_field-spelled n (decimal n) (Spells-decimal n fits) h (decimal_nonempty n fits) (no_leading_zero n fits)

@@ -24,7 +24,7 @@ use Rattle.sst_cli.proofs.Rows.{ComesAfter, weight-append, IsOrdered-last}
 -- ---- the line of an entry has no line end
 
 -- a blank between two texts is no line end
-blank-avoids : (front rest : List ℕ) → Avoids 10 front → Avoids 10 rest → Avoids 10 (front ++ (32 ∷ rest))
+pub blank-avoids : (front rest : List ℕ) → Avoids 10 front → Avoids 10 rest → Avoids 10 (front ++ (32 ∷ rest))
 blank-avoids front rest before after =
     All-append (λ c. c ≢ 10) front (32 ∷ rest) before (All-cons (λ c. c ≢ 10) 32 rest (λ e. omega arith) after)
 
@@ -46,11 +46,11 @@ entry_line-cut e text user value seq =
 
 -- ---- the line of an entry is short
 
-length-hex_text : (bytes : List ℕ) → length (hex_text bytes) ≤ 2 * length bytes + 1
+pub length-hex_text : (bytes : List ℕ) → length (hex_text bytes) ≤ 2 * length bytes + 1
 length-hex_text [] = omega arith
 length-hex_text (b ∷ rest) = omega (arith, length-encode_with lower_digits (b ∷ rest))
 
-length-blank : (front rest : List ℕ) → length (front ++ (32 ∷ rest)) ≡ length front + length rest + 1
+pub length-blank : (front rest : List ℕ) → length (front ++ (32 ∷ rest)) ≡ length front + length rest + 1
 length-blank front rest = omega (arith, length-append front (32 ∷ rest))
 
 pub length-entry_line : (e : Entry) → IsInLimits e → length (entry_line e) ≤ 40000000

@@ -31,7 +31,7 @@ impl Calls {
         }
     }
 
-    /// Appends a call. Where memory runs out, the list may be as it was or any other.
+    /// Appends a call. Where memory runs out, nothing is said of the list.
     pub fn push(&mut self, call: Call) -> Result<(), Memory>
         ensures { OnOk result (self.new ≡ self.old ++ call ∷ []) }
     {

@@ -1,11 +1,13 @@
 //! What is true of each file and of each text, whatever code makes or reads it.
-ghost use Rattle.std.specs.Prelude.{◌≡◌, ◌<◌, ◌^◌, List, Some, Ok};
+ghost use Rattle.std.specs.Prelude.{◌≡◌, ◌<◌, ◌≤◌, ◌^◌, List, length, Some, Ok};
 ghost use Rattle.hex.specs.Hex.{IsBytes};
+ghost use Rattle.sst_key.specs.declared.calls.Call.{Call};
 ghost use Rattle.sst_key.specs.declared.entries.Entry.{Entry};
 ghost use Rattle.sst_cli.specs.Written.{Fits, Written, table_of};
 ghost use Rattle.sst_cli.specs.Texts.{entry_of_line};
 ghost use Rattle.sst_cli.specs.EntryText.{AreBytes, entry_line, lines_text};
-ghost use Rattle.sst_cli.specs.Reading.{read_input};
+ghost use Rattle.sst_cli.specs.CallText.{IsInLimits, IsOfBytes, AreInLimits, AreOfBytes, call_of_line, call_line, calls_text};
+ghost use Rattle.sst_cli.specs.Reading.{read_input, read_calls};
 
 /// The file that is written for a list stands for that list.
 ///
@@ -31,4 +33,22 @@ pub fn an_entry_line_reads_back()
 /// entry is one, and its text is empty. The texts and the limits are this project's own.
 pub fn a_list_reads_back()
     ensures { (entries : List Entry) → Fits entries → AreBytes entries → read_input (lines_text entries) ≡ Ok entries }
+{}
+
+/// The line that is written for a call reads back as the call.
+///
+/// It holds of each call whose target, if it has one, has a user key of at most 65,536 bytes and a sequence number
+/// below 2^56. The lines are this project's own.
+pub fn a_call_line_reads_back()
+    ensures { (call : Call) → IsInLimits call → IsOfBytes call → call_of_line (call_line call) ≡ Some call }
+{}
+
+/// The text that is written for a list of calls reads back as the list.
+///
+/// The text is the line of each call and its line end. It holds of each list of at most 1,048,576 calls whose targets
+/// have user keys of at most 65,536 bytes and sequence numbers below 2^56. The list with no call is one, and its text
+/// is empty. The texts and the limits are this project's own.
+pub fn a_call_list_reads_back()
+    ensures { (calls : List Call) → length calls ≤ 1048576 → AreInLimits calls → AreOfBytes calls
+        → read_calls (calls_text calls) ≡ Ok calls }
 {}

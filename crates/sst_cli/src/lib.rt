@@ -60,6 +60,15 @@
 //!   back as the entry ([`an_entry_line_reads_back`]), and a list's text as the list ([`a_list_reads_back`]).
 //! - Device is answered only with a counted fault. No file but OUT changes.
 //!
+//! # Calls
+//!
+//! Call lines are read and checked ([`call_reading::read_calls`]), and the lines of replies are written
+//! ([`reply_line::put_reply_line`]). No command uses them yet. A call line is one of `get USER SEQ`, `first`, `last`,
+//! `seek USER SEQ`, `seek_for_prev USER SEQ`, `next` and `prev`, and ends with LF; USER is as above and has at most
+//! 65,536 bytes. An input has at most 1,048,576 of them: a line is refused as `line-long`, `line` or `many`. A call's
+//! line reads back as the call ([`a_call_line_reads_back`]), and the text of a list of calls as the list
+//! ([`a_call_list_reads_back`]).
+//!
 //! # For now
 //!
 //! A part whose crate comes later stands here, and moves unchanged: [`device`], which is the folder, input
@@ -75,6 +84,8 @@ mod bbt_writer;
 pub mod call_line;
 pub mod call_list;
 pub mod call_reading;
+#[cfg(test)]
+mod call_tests;
 mod cuts;
 pub mod device;
 mod entry_line;
@@ -97,7 +108,10 @@ mod words;
 
 pub use bbt_fault::BbtFault;
 pub use footer::Footer;
-pub use laws::{a_list_reads_back, an_entry_line_reads_back, written_file_stands_for_its_list};
+pub use laws::{
+    a_call_line_reads_back, a_call_list_reads_back, a_list_reads_back, an_entry_line_reads_back,
+    written_file_stands_for_its_list,
+};
 pub use meta_fault::MetaFault;
 pub use opening_laws::{
     a_file_opens_to_its_rows, a_file_stands_for_one_list, a_footer_is_read, a_stored_block_is_read,

@@ -60,7 +60,7 @@ fn kind_letter(kind: Kind) -> u8
 
 /// Appends the line of an entry, with no line end.
 ///
-/// Where memory runs out, `out` holds its old bytes followed by any.
+/// Where memory runs out, nothing is said of `out`.
 pub fn put_entry_line(out: &mut Vec<u8>, e: EntryView<'_>) -> Result<(), Memory>
     ensures ok { OnOk result (out.new.items ≡ out.old.items ++ entry_line (entry_of e.entry)) }
 {
@@ -104,8 +104,8 @@ fn put_text(out: &mut Vec<u8>, text: &[u8]) -> Result<(), Memory>
 
 /// Appends the line of what a call answers, and its line end.
 ///
-/// `shown` is the entry that is shown, where the reply is [`Reply::Shown`]. Where memory runs out, `out` holds its
-/// old bytes followed by any.
+/// `shown` is the entry that is shown, where the reply is [`Reply::Shown`]. Where memory runs out, nothing is said
+/// of `out`.
 pub fn put_reply_line(
     out: &mut Vec<u8>,
     reply: Reply,
