@@ -1,5 +1,8 @@
 pub mod BlockLaws
+pub mod FaultyRows
+pub mod FirstFaults
 pub mod Follows
+pub mod Footer
 pub mod Fronts
 pub mod BlockRead
 pub mod Held
@@ -9,9 +12,11 @@ pub mod Parts
 pub mod Pass
 pub mod RowLengths
 pub mod OneReading
+pub mod RestartFaults
 pub mod RestartRules
 pub mod RestartsRead
 pub mod RowAt
+pub mod RowFaults
 pub mod RowForms
 pub mod RowsRead
 pub mod Size
