@@ -38,7 +38,7 @@ handles-joined a b between first second =
     ap (λ (k : ℕ). drop k between) x.0.2 ∙ ap (drop (length (handle_spelling a.0))) x.0.1 ∙ drop_at (handle_spelling a.0) x.0.0 (length (handle_spelling a.0)) refl in
     (x.1, x.2, y.1, y.2, (y.0.0, x.0.1 ∙ ap (λ (l : List ℕ). handle_spelling a.0 ++ l) (sym left ∙ y.0.1)))
 
-handles_read-found : (footer : Footer) (between : List ℕ) → handles_read between ≡ Ok footer → AreHandles footer.metaindex footer.index between
+pub handles_read-found : (footer : Footer) (between : List ℕ) → handles_read between ≡ Ok footer → AreHandles footer.metaindex footer.index between
 unfolding handles_read
 handles_read-found footer between e =
     elim (handle_at between) as (λ (o : Option (Handle × ℕ)). handle_at between ≡ o → handles_after between o ≡ Ok footer → AreHandles footer.metaindex footer.index between) [
@@ -65,7 +65,7 @@ no-handles : (fault : MetaFault) (between : List ℕ) → handles_read between �
 no-handles fault between e metaindex index are = cc (handles_read-spelled metaindex index between are)
 
 -- the version first, then the checksum type, then the handles
-by_version-cases : {P : Type 0} (kind version : ℕ) (between : List ℕ) (read : Result Footer MetaFault) → by_version kind between (Some version) ≡ read
+pub by_version-cases : {P : Type 0} (kind version : ℕ) (between : List ℕ) (read : Result Footer MetaFault) → by_version kind between (Some version) ≡ read
     → ((IsBuilt version → ⊥) → Err (Version version) ≡ read → P)
     → (IsBuilt version → kind ≢ 1 → Err (ChecksumType kind) ≡ read → P)
     → (IsBuilt version → kind ≡ 1 → handles_read between ≡ read → P) → P
@@ -111,8 +111,8 @@ leads-read file footer e =
       | none not e ↦ cc
     ]
 
--- a fault of the end of a file of bytes is one that the file shows
-pub footer_read-fault : (file : List ℕ) (fault : MetaFault) → IsBytes file → footer_read (last_bytes 53 file) ≡ Err fault → ShowsMeta file fault
+-- a fault of the end of a file, whose last bytes are bytes, is one that the file shows
+pub footer_read-fault : (file : List ℕ) (fault : MetaFault) → IsBytes (last_bytes 53 file) → footer_read (last_bytes 53 file) ≡ Err fault → ShowsMeta file fault
 footer_read-fault file fault bytes e =
     elim (end_reads file (Err fault) e) [
       | fields kind version between ends e ↦

@@ -1,5 +1,5 @@
 -- What the end of a file is read as: the fields of a footer, another kind of table, or none.
-use Rattle.std.proofs.Common.{◌≡◌, ℕ, ◌+◌, ◌-◌, ◌^◌, ◌<◌, ◌≤◌, ◌==◌, ◌&&◌, ◌||◌, nat_le, get_or, true, false, List, [], ◌∷◌, ◌++◌, length, take, drop, Option, None, Some, Result, Err, refl, sym, ap, subst, ◌∙◌, inl, inr, length-append, length-drop, append_assoc, arith}
+use Rattle.std.proofs.Common.{◌≡◌, ℕ, ◌-◌, ◌^◌, ◌<◌, ◌≤◌, ◌==◌, ◌&&◌, ◌||◌, nat_le, get_or, true, false, List, [], ◌∷◌, ◌++◌, length, take, drop, Option, None, Some, Result, Err, refl, sym, ap, subst, ◌∙◌, inl, inr, length-append, length-drop, append_assoc, arith}
 use Rattle.std.proofs.lemmas.Bool.{le-leb, leb-true, eqb-true, eq-eqb, and_parts, or_cases, both_ways, and_from, or_left, or_right}
 use Rattle.std.proofs.lemmas.List.{take_at, drop_at, drop-drop, length-take-le}
 use Rattle.hex.specs.Hex.{IsBytes}
@@ -38,11 +38,11 @@ pub data EndReads (file : List ℕ) (read : Result Footer MetaFault) : Type 0 wh
   fields : (kind version : ℕ) (between : List ℕ) → EndsIn file (length file - 53) kind version between → by_version kind between (Some version) ≡ read → EndReads file read
   legacy : EndsWith legacy_block_based_magic 48 file → Err (Version 0) ≡ read → EndReads file read
   other : IsOtherTable file → Err NotYet ≡ read → EndReads file read
-  none : (IsBytes file → IsTable file → ⊥) → Err NotTable ≡ read → EndReads file read
+  none : (IsBytes (last_bytes 53 file) → IsTable file → ⊥) → Err NotTable ≡ read → EndReads file read
 
 -- the fields of the last 53 bytes
 fields-found : (file front tail : List ℕ) (magic : ℕ) (read : Result Footer MetaFault) → file ≡ front ++ tail → length file - 53 ≡ length front → length tail ≡ 53
-    → last_bytes 8 tail ≡ fixed 8 magic → block_based_magic ≡ magic → (IsBytes file → (i : ℕ) → get_or (drop 41 tail) i 0 < 256)
+    → last_bytes 8 tail ≡ fixed 8 magic → block_based_magic ≡ magic → (IsBytes (last_bytes 53 file) → (i : ℕ) → get_or (drop 41 tail) i 0 < 256)
     → fields_read tail ≡ read → EndReads file read
 fields-found file front [] magic read joined at size last is are e = absurd (omega arith)
 fields-found file front (kind ∷ rest) magic read joined at size last is are e =
@@ -121,7 +121,7 @@ by_number file m read is e =
     let front = length-take-le (length file - 53) file (omega arith) in
     fields-found file (take (length file - 53) file) tail m read (last_bytes-split 53 file) (sym front) (omega arith)
     (number_at_end-found tail m is).1 (sym number)
-    (λ bytes i. rw (drop-drop 41 (length file - 53) file) (IsBytes-drop (length file - 53 + 41) file bytes i)) e)
+    (IsBytes-drop 41 tail) e)
     (λ a e. by_test (m == legacy_block_based_magic && nat_le 48 (length tail)) (Err (Version 0)) _ read e
     (λ test e.
     let parts = and_parts (m == legacy_block_based_magic) (nat_le 48 (length tail)) test in

@@ -10,7 +10,8 @@ ghost use Rattle.sst_key.specs.Entry.{IsOrdered};
 ghost use Rattle.sst_block.specs.Block.{Row};
 ghost use Rattle.sst_cli.specs.BlockBased.{BlockBased, HasSeq, Opens, rows_of};
 ghost use Rattle.sst_cli.specs.Opening.{open_read};
-ghost use Rattle.sst_cli.specs.Shows.{FooterLeads, ShowsMeta};
+ghost use Rattle.sst_cli.specs.Shows.{FooterLeads, Shows, ShowsMeta};
+ghost use Rattle.sst_cli.specs.declared.bbt_fault.BbtFault.{BbtFault};
 ghost use Rattle.sst_cli.specs.declared.meta_fault.MetaFault.{MetaFault};
 ghost use Rattle.sst_cli.specs.declared.footer.Footer.{Footer};
 
@@ -23,13 +24,15 @@ pub fn a_stored_block_is_read()
     ensures sound { (file : List ℕ) (end : ℕ) (h : Handle) (block : List ℕ) → frame_read file end h ≡ Ok block → Framed file end h block }
 {}
 
-/// What the last 53 bytes of a file are read as is what the file's footer says.
+/// What the last 53 bytes of a file are read as is what the file's footer says, or a fault that the file shows.
 ///
+/// `complete`: a footer that leads to two handles is read. `sound`: one that is read leads to its handles. `faults`
+/// holds where the last 53 are bytes.
 /// RocksDB: `Footer::DecodeFrom` in table/format.cc.
 pub fn a_footer_is_read()
     ensures complete { (file : List ℕ) (footer : Footer) → FooterLeads file (length file - 53) footer.metaindex footer.index → footer_read (last_bytes 53 file) ≡ Ok footer }
     ensures sound { (file : List ℕ) (footer : Footer) → footer_read (last_bytes 53 file) ≡ Ok footer → FooterLeads file (length file - 53) footer.metaindex footer.index }
-    ensures faults { (file : List ℕ) (fault : MetaFault) → IsBytes file → footer_read (last_bytes 53 file) ≡ Err fault → ShowsMeta file fault }
+    ensures faults { (file : List ℕ) (fault : MetaFault) → IsBytes (last_bytes 53 file) → footer_read (last_bytes 53 file) ≡ Err fault → ShowsMeta file fault }
 {}
 
 /// A file opens to a list of entries exactly where it reads as their rows.
@@ -57,4 +60,24 @@ pub fn what_opens_is_ordered()
 pub fn a_file_stands_for_one_list()
     ensures opens { (file : List ℕ) (a b : List Entry) → Opens file a → Opens file b → a ≡ b }
     ensures stands { (file : List ℕ) (a b : List Entry) → BlockBased file a → BlockBased file b → a ≡ b }
+{}
+
+/// A fault that a file reads as is one that the file shows.
+///
+/// Faults are shown by the footer, by the frame of a block that is reached, and by what its bytes read as. It holds
+/// where the last 53 are bytes.
+/// RocksDB: `Status::Corruption` and `Status::NotSupported` of `BlockBasedTable::Open`, in
+/// table/block_based/block_based_table_reader.cc and table/format.cc.
+pub fn a_fault_is_shown()
+    ensures { (file : List ℕ) (fault : BbtFault) → IsBytes (last_bytes 53 file) → open_read file ≡ Err fault → Shows file fault }
+{}
+
+/// A file that opens shows no fault.
+///
+/// So no file both stands for a list and shows a fault, and a file of bytes that shows none opens to a list.
+/// RocksDB: `BlockBasedTable::Open` in table/block_based/block_based_table_reader.cc.
+pub fn a_file_that_opens_shows_no_fault()
+    ensures none { (file : List ℕ) (entries : List Entry) (fault : BbtFault) → Opens file entries → Shows file fault → ⊥ }
+    ensures opens { (file : List ℕ) → IsBytes (last_bytes 53 file) → ((fault : BbtFault) → Shows file fault → ⊥)
+        → (entries : List Entry) × Opens file entries }
 {}
