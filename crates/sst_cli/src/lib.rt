@@ -81,6 +81,7 @@ mod bbt_fault;
 mod answering;
 pub mod bbt_reader;
 mod bbt_writer;
+mod call_command;
 pub mod call_line;
 pub mod call_list;
 pub mod call_reading;

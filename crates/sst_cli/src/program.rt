@@ -42,7 +42,7 @@ pub enum Status {
 }
 
 /// The status of a call outside that stopped.
-fn status_of(stop: DevStop) -> Status
+pub fn status_of(stop: DevStop) -> Status
     ensures fault { IsFault result }
     ensures device { result ≡ Status.Device → stop ≡ DevStop.Failed }
 {
@@ -53,7 +53,7 @@ fn status_of(stop: DevStop) -> Status
 }
 
 /// Prints a text, and answers the status that goes with it.
-fn print<O: Sink>(out: &mut O, text: &[u8], status: Status) -> Status
+pub fn print<O: Sink>(out: &mut O, text: &[u8], status: Status) -> Status
     ensures { IsPrinted result status text.now (O.written out.old) (O.written out.new)
         (O.faults out.old) (O.faults out.new) }
 {
@@ -107,7 +107,7 @@ fn print_done<O: Sink>(alloc: Global, out: &mut O, count: u64) -> Status
 }
 
 /// Prints why the input is refused.
-fn print_refusal<O: Sink>(alloc: Global, out: &mut O, refusal: Refusal) -> Status
+pub fn print_refusal<O: Sink>(alloc: Global, out: &mut O, refusal: Refusal) -> Status
     ensures { IsPrinted result Status.Input (refusal_text refusal) (O.written out.old) (O.written out.new)
         (O.faults out.old) (O.faults out.new) }
 {

@@ -29,3 +29,26 @@ fn named<'a>(command: &str, format: &str, name: &'a str) -> Option<&'a str>
     }
     Some(name)
 }
+
+/// The name of the file that a `calls` reads, where the words are such a line.
+pub fn calls_name(words: &[String]) -> Option<&str>
+    ensures { option_map (λ name. name.now) result ≡ line.calls_name (map string_bytes words.now) }
+{
+    match words {
+        [command, name] => called(command.as_str(), name.as_str()),
+        _ => None,
+    }
+}
+
+/// The name, where the word before it asks for answers from a file and it isn't empty.
+fn called<'a>(command: &str, name: &'a str) -> Option<&'a str>
+    ensures { option_map (λ name. name.now) result ≡ line.calls_name (command.now ∷ name.entry.now ∷ []) }
+{
+    if name.is_empty() {
+        return None;
+    }
+    if command != "calls" {
+        return None;
+    }
+    Some(name)
+}

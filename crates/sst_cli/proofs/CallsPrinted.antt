@@ -1,0 +1,69 @@
+-- Which text a `calls` has, and what was printed of it.
+use Rattle.std.proofs.Common.{◌≡◌, ◌⊎◌, ℕ, List, [], Option, None, Some, Result, Ok, Err, refl, sym, ap, ◌∙◌, subst, inl, inr}
+use Rattle.std.specs.Io.KnownBytes.{append_known}
+use Rattle.sst_key.specs.declared.entries.Entry.{Entry}
+use Rattle.sst_key.specs.declared.calls.Call.{Call}
+use Rattle.sst_block.specs.Block.{Row}
+use Rattle.sst_cli.specs.BlockBased.{rows_of}
+use Rattle.sst_cli.specs.CallsRun.{IsFileText, IsAnswered, IsAnswersText, IsInputText, IsCallsText, file_status}
+use Rattle.sst_cli.specs.FaultText.{fault_text}
+use Rattle.sst_cli.specs.Opening.{open_read}
+use Rattle.sst_cli.specs.Printed.{IsPrinted}
+use Rattle.sst_cli.specs.Reading.{read_calls}
+use Rattle.sst_cli.specs.Replies.{answers_text}
+use Rattle.sst_cli.proofs.OpensRead.{open_read-found}
+use Rattle.sst_cli.specs.Refusals.{refusal_text}
+use Rattle.sst_cli.specs.Run.{IsFault}
+use Rattle.sst_cli.specs.declared.bbt_fault.BbtFault.{BbtFault}
+use Rattle.sst_cli.specs.declared.refusal.Refusal.{Refusal}
+use Rattle.sst_cli.specs.declared.program.Status.{Status}
+
+-- the text of a file that reads so, where it is told
+pub file_text_is : (file : Option (List ℕ)) (read : Result (List Row) BbtFault) (calls : List Call) (text : List ℕ)
+    → ((bytes : List ℕ) → file ≡ Some bytes → open_read bytes ≡ read) → IsFileText read calls text → IsAnswersText file calls text
+file_text_is None read calls text reads is = (read, is)
+file_text_is (Some bytes) read calls text reads is = subst (λ (r : Result (List Row) BbtFault). IsFileText r calls text) (sym (reads bytes refl)) is
+
+-- a file that reads so was answered
+pub answered : (result : Status) (found read : Result (List Row) BbtFault) (calls : List Call) (text : List ℕ) (before now : Option (List ℕ)) (faults counted : ℕ)
+    → IsPrinted result (file_status found) text before now faults counted → IsFileText found calls text → found ≡ read
+    → IsFault result ⊎ IsAnswered result read calls before now
+answered result found read calls text before now faults counted (inl whole) is same =
+    inr (subst (λ (r : Result (List Row) BbtFault). IsAnswered result r calls before now) same (record { ends = whole.ends; text = text; is_text = is; printed = whole.printed }))
+answered result found read calls text before now faults counted (inr short) is same = inl short.ends
+
+-- each file calls for some text
+some_read_text : (file : List ℕ) (read : Result (List Row) BbtFault) (calls : List Call) → open_read file ≡ read → (text : List ℕ) × IsFileText read calls text
+some_read_text file (Ok rows) calls reads =
+    let found = open_read-found file rows reads in
+    (answers_text found.0 calls, (found.0, found.1, refl))
+some_read_text file (Err fault) calls reads = (fault_text fault, refl)
+
+pub some_answers_text : (file : Option (List ℕ)) (calls : List Call) → (text : List ℕ) × IsAnswersText file calls text
+some_answers_text None calls = (answers_text [] calls, (Ok [], ([], refl, refl)))
+some_answers_text (Some file) calls = some_read_text file (open_read file) calls refl
+
+-- and each input with it
+some_input_text : (file : Option (List ℕ)) (reading : Result (List Call) Refusal) → (text : List ℕ) × IsInputText file reading text
+some_input_text file (Ok calls) = some_answers_text file calls
+some_input_text file (Err refusal) = (refusal_text refusal, refl)
+
+pub some_calls_text : (file input : Option (List ℕ)) → (text : List ℕ) × IsCallsText file input text
+some_calls_text file None = let some = some_input_text file (Ok []) in (some.0, (Ok [], some.1))
+some_calls_text file (Some input) = some_input_text file (read_calls input)
+
+-- the text of an input that reads so, where it is told
+pub input_text_is : (file input : Option (List ℕ)) (reading : Result (List Call) Refusal) (text : List ℕ)
+    → ((bytes : List ℕ) → input ≡ Some bytes → read_calls bytes ≡ reading) → IsInputText file reading text → IsCallsText file input text
+input_text_is file None reading text reads is = (reading, is)
+input_text_is file (Some bytes) reading text reads is = subst (λ (r : Result (List Call) Refusal). IsInputText file r text) (sym (reads bytes refl)) is
+
+-- what an input reads as is one
+pub same_calls : (reading : Result (List Call) Refusal) (some others : List Call) → reading ≡ Ok some → reading ≡ Ok others → some ≡ others
+same_calls reading some others a b = let both = sym a ∙ b in cc
+
+pub same_refusal : (reading : Result (List Call) Refusal) (some other : Refusal) → reading ≡ Err some → reading ≡ Err other → some ≡ other
+same_refusal reading some other a b = let both = sym a ∙ b in cc
+
+pub not_both : (reading : Result (List Call) Refusal) (calls : List Call) (refusal : Refusal) → reading ≡ Ok calls → reading ≡ Err refusal → ⊥
+not_both reading calls refusal a b = let both = sym a ∙ b in cc

@@ -1,0 +1,74 @@
+-- What a `calls` comes to: the text that it prints, the status that it ends with, and what it leaves.
+use Rattle.std.specs.Prelude.{◌≡◌, ◌⊎◌, ℕ, List, [], Option, Some, None, Result, Ok, Err, IsTrue}
+use Rattle.std.specs.Io.KnownBytes.{append_known}
+use Rattle.sst_key.specs.declared.entries.Entry.{Entry}
+use Rattle.sst_key.specs.declared.calls.Call.{Call}
+use Rattle.sst_block.specs.Block.{Row}
+use Rattle.sst_cli.specs.BlockBased.{rows_of}
+use Rattle.sst_cli.specs.Folder.{Files, file_of, misses}
+use Rattle.sst_cli.specs.FaultText.{fault_text}
+use Rattle.sst_cli.specs.Opening.{open_read}
+use Rattle.sst_cli.specs.Reading.{read_calls}
+use Rattle.sst_cli.specs.Refusals.{refusal_text}
+use Rattle.sst_cli.specs.Replies.{answers_text}
+use Rattle.sst_cli.specs.Run.{IsTextOf, usage_text}
+use Rattle.sst_cli.specs.Words.{out_name, calls_name}
+use Rattle.sst_cli.specs.declared.bbt_fault.BbtFault.{BbtFault}
+use Rattle.sst_cli.specs.declared.refusal.Refusal.{Refusal}
+use Rattle.sst_cli.specs.declared.program.Status.{Status}
+use Rattle.sst_cli.specs.declared.program.Status.TheVariants.{Done, File}
+
+-- the text that a file calls for which reads so: the answers of the list whose rows it has, or the line of its fault
+abbrev pub IsFileText : Result (List Row) BbtFault → List Call → List ℕ → Type 0
+IsFileText (Ok rows) calls text = (entries : List Entry) × (rows ≡ rows_of entries) × (text ≡ answers_text entries calls)
+IsFileText (Err fault) calls text = text ≡ fault_text fault
+
+-- the status that goes with it
+abbrev pub file_status : Result (List Row) BbtFault → Status
+file_status (Ok rows) = Done
+file_status (Err fault) = File
+
+-- the status and the text are those that a file calls for which reads so
+pub record IsAnswered (result : Status) (read : Result (List Row) BbtFault) (calls : List Call) (before now : Option (List ℕ)) : Type 0 where
+  pub ends : result ≡ file_status read
+  pub text : List ℕ
+  pub is_text : IsFileText read calls text
+  pub printed : now ≡ append_known before text
+
+-- a `calls` whose input reads as these calls is carried out on a file with these entries: their answers are printed,
+-- the input is read to its end, and no file changed
+pub record Answered (result : Status) (entries : List Entry) (calls : List Call) (old new : Option Files) (left before now : Option (List ℕ)) : Type 0 where
+  pub done : result ≡ Done
+  pub kept : new ≡ old
+  pub read : left ≡ Some []
+  pub printed : now ≡ append_known before (answers_text entries calls)
+
+-- the text may be that of these calls on a file, where it is told
+abbrev pub IsAnswersText : Option (List ℕ) → List Call → List ℕ → Type 0
+IsAnswersText None calls text = (read : Result (List Row) BbtFault) × IsFileText read calls text
+IsAnswersText (Some file) calls text = IsFileText (open_read file) calls text
+
+-- the text of an input that reads so
+abbrev pub IsInputText : Option (List ℕ) → Result (List Call) Refusal → List ℕ → Type 0
+IsInputText file (Ok calls) text = IsAnswersText file calls text
+IsInputText file (Err refusal) text = text ≡ refusal_text refusal
+
+-- the text may be that of a `calls` with this file and this input, where they are told
+abbrev pub IsCallsText : Option (List ℕ) → Option (List ℕ) → List ℕ → Type 0
+IsCallsText file None text = (reading : Result (List Call) Refusal) × IsInputText file reading text
+IsCallsText file (Some input) text = IsInputText file (read_calls input) text
+
+-- the text may be that of a command line without an OUT
+abbrev pub IsOtherText : Option Files → Option (List ℕ) → Option (List ℕ) → List ℕ → Type 0
+IsOtherText held input None text = text ≡ usage_text
+IsOtherText held input (Some name) text = IsCallsText (file_of held name) input text
+
+-- the text may be that of the words, with this input and these files, where they are told
+abbrev pub IsTextFor : List (List ℕ) → Option Files → Option (List ℕ) → Option (List ℕ) → List ℕ → Type 0
+IsTextFor words held input None text = IsOtherText held input (calls_name words) text
+IsTextFor words held input (Some name) text = IsTextOf (Some name) input text
+
+-- the folder tells that it lacks the file, and the input, where it is told, reads as calls
+pub record IsLacking (held : Option Files) (name : List ℕ) (input : Option (List ℕ)) : Type 0 where
+  pub lacks : IsTrue (misses held name 0)
+  pub reads : (text : List ℕ) → input ≡ Some text → (calls : List Call) × (read_calls text ≡ Ok calls)
