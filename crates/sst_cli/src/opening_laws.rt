@@ -2,37 +2,58 @@
 ghost use Rattle.std.specs.Prelude.{◌≡◌, ℕ, ◌-◌, List, length, All, Ok, Err};
 ghost use Rattle.hex.specs.Hex.{IsBytes};
 ghost use Rattle.sst_num.specs.declared.block_handle.Handle.{Handle};
-ghost use Rattle.sst_cli.specs.Framed.{Framed};
-ghost use Rattle.sst_cli.specs.FrameReading.{frame_read};
-ghost use Rattle.sst_cli.specs.FooterReading.{footer_read, last_bytes};
 ghost use Rattle.sst_key.specs.declared.entries.Entry.{Entry};
 ghost use Rattle.sst_key.specs.Entry.{IsOrdered};
 ghost use Rattle.sst_block.specs.Block.{Row};
+ghost use Rattle.sst_cli.specs.Framed.{Framed};
 ghost use Rattle.sst_cli.specs.BlockBased.{BlockBased, HasSeq, Opens, rows_of};
+ghost use Rattle.sst_cli.specs.Written.{Fits, table_of};
+ghost use Rattle.sst_cli.specs.FrameReading.{frame_read};
+ghost use Rattle.sst_cli.specs.FrameFaults.{IsFrameFault};
+ghost use Rattle.sst_cli.specs.FooterReading.{footer_read, last_bytes};
 ghost use Rattle.sst_cli.specs.Opening.{open_read};
 ghost use Rattle.sst_cli.specs.Shows.{FooterLeads, Shows, ShowsMeta};
-ghost use Rattle.sst_cli.specs.declared.bbt_fault.BbtFault.{BbtFault};
-ghost use Rattle.sst_cli.specs.declared.meta_fault.MetaFault.{MetaFault};
+ghost use Rattle.sst_cli.specs.declared.device.frame.FrameFault.{FrameFault};
 ghost use Rattle.sst_cli.specs.declared.footer.Footer.{Footer};
+ghost use Rattle.sst_cli.specs.declared.meta_fault.MetaFault.{MetaFault};
+ghost use Rattle.sst_cli.specs.declared.bbt_fault.BbtFault.{BbtFault};
 
 /// What is read at a block handle is exactly the block that is stored there.
 ///
-/// `end` is the file's length without its footer.
+/// `end` is the file's length without its footer, but this holds of any number. `complete`: a block that is stored at
+/// the handle is read. `sound`: what is read is stored there.
 /// RocksDB: `BlockFetcher::ReadBlockContents` in table/block_fetcher.cc.
 pub fn a_stored_block_is_read()
-    ensures complete { (file : List ℕ) (end : ℕ) (h : Handle) (block : List ℕ) → Framed file end h block → frame_read file end h ≡ Ok block }
-    ensures sound { (file : List ℕ) (end : ℕ) (h : Handle) (block : List ℕ) → frame_read file end h ≡ Ok block → Framed file end h block }
+    ensures complete { (file : List ℕ) (end : ℕ) (h : Handle) (block : List ℕ) → Framed file end h block
+        → frame_read file end h ≡ Ok block }
+    ensures sound { (file : List ℕ) (end : ℕ) (h : Handle) (block : List ℕ) → frame_read file end h ≡ Ok block
+        → Framed file end h block }
 {}
 
-/// What the last 53 bytes of a file are read as is what the file's footer says, or a fault that the file shows.
+/// The fault that is read at a block handle is exactly the first thing that is wrong there.
+///
+/// In this order: the block or its trailer passes the end, the block is too large, its checksum is another, it is
+/// compressed. `complete`: what is first wrong is read. `sound`: the fault that is read is first wrong.
+/// RocksDB: `BlockFetcher::ReadBlockContents` in table/block_fetcher.cc.
+pub fn a_frame_fault_is_the_first()
+    ensures complete { (file : List ℕ) (end : ℕ) (h : Handle) (fault : FrameFault) → IsFrameFault file end h fault
+        → frame_read file end h ≡ Err fault }
+    ensures sound { (file : List ℕ) (end : ℕ) (h : Handle) (fault : FrameFault) → frame_read file end h ≡ Err fault
+        → IsFrameFault file end h fault }
+{}
+
+/// What the last 53 bytes of a file read as is what its footer says, or a fault that the file shows.
 ///
 /// `complete`: a footer that leads to two handles is read. `sound`: one that is read leads to its handles. `faults`
-/// holds where the last 53 are bytes.
+/// holds where the last 53 numbers of the list are bytes, as those of a real file are.
 /// RocksDB: `Footer::DecodeFrom` in table/format.cc.
 pub fn a_footer_is_read()
-    ensures complete { (file : List ℕ) (footer : Footer) → FooterLeads file (length file - 53) footer.metaindex footer.index → footer_read (last_bytes 53 file) ≡ Ok footer }
-    ensures sound { (file : List ℕ) (footer : Footer) → footer_read (last_bytes 53 file) ≡ Ok footer → FooterLeads file (length file - 53) footer.metaindex footer.index }
-    ensures faults { (file : List ℕ) (fault : MetaFault) → IsBytes (last_bytes 53 file) → footer_read (last_bytes 53 file) ≡ Err fault → ShowsMeta file fault }
+    ensures complete { (file : List ℕ) (footer : Footer) → FooterLeads file (length file - 53) footer.metaindex footer.index
+        → footer_read (last_bytes 53 file) ≡ Ok footer }
+    ensures sound { (file : List ℕ) (footer : Footer) → footer_read (last_bytes 53 file) ≡ Ok footer
+        → FooterLeads file (length file - 53) footer.metaindex footer.index }
+    ensures faults { (file : List ℕ) (fault : MetaFault) → IsBytes (last_bytes 53 file)
+        → footer_read (last_bytes 53 file) ≡ Err fault → ShowsMeta file fault }
 {}
 
 /// A file opens to a list of entries exactly where it reads as their rows.
@@ -43,7 +64,18 @@ pub fn a_footer_is_read()
 /// RocksDB: `BlockBasedTable::Open` in table/block_based/block_based_table_reader.cc.
 pub fn a_file_opens_to_its_rows()
     ensures complete { (file : List ℕ) (entries : List Entry) → Opens file entries → open_read file ≡ Ok (rows_of entries) }
-    ensures sound { (file : List ℕ) (rows : List Row) → open_read file ≡ Ok rows → (entries : List Entry) × (rows ≡ rows_of entries) × Opens file entries }
+    ensures sound { (file : List ℕ) (rows : List Row) → open_read file ≡ Ok rows
+        → (entries : List Entry) × (rows ≡ rows_of entries) × Opens file entries }
+{}
+
+/// The file that is written for a list reads back as the rows of that list.
+///
+/// It holds of each list that is written: one that increases, whose entries are within their limits, and whose
+/// weight is at most 2^28. The list with no entry is one.
+/// RocksDB: `BlockBasedTableBuilder` in table/block_based/block_based_table_builder.cc, and `BlockBasedTable::Open`
+/// in table/block_based/block_based_table_reader.cc.
+pub fn a_written_file_reads_back()
+    ensures { (entries : List Entry) → Fits entries → open_read (table_of entries) ≡ Ok (rows_of entries) }
 {}
 
 /// The entries that a file opens to are in order, and their sequence numbers are below 2^56.
@@ -64,17 +96,19 @@ pub fn a_file_stands_for_one_list()
 
 /// A fault that a file reads as is one that the file shows.
 ///
-/// Faults are shown by the footer, by the frame of a block that is reached, and by what its bytes read as. It holds
-/// where the last 53 are bytes.
+/// A fault is shown by the footer, by the frame of a block that the footer or the index leads to, or by what the bytes
+/// of such a block read as. This holds where the last 53 numbers of the list are bytes, as those of a real file are.
 /// RocksDB: `Status::Corruption` and `Status::NotSupported` of `BlockBasedTable::Open`, in
 /// table/block_based/block_based_table_reader.cc and table/format.cc.
 pub fn a_fault_is_shown()
-    ensures { (file : List ℕ) (fault : BbtFault) → IsBytes (last_bytes 53 file) → open_read file ≡ Err fault → Shows file fault }
+    ensures { (file : List ℕ) (fault : BbtFault) → IsBytes (last_bytes 53 file) → open_read file ≡ Err fault
+        → Shows file fault }
 {}
 
-/// A file that opens shows no fault.
+/// A file that opens shows no fault, and a file that shows none opens.
 ///
-/// So no file both stands for a list and shows a fault, and a file of bytes that shows none opens to a list.
+/// `none`: no file both opens to a list and shows a fault. `opens` holds where the last 53 numbers of the list are
+/// bytes, as those of a real file are.
 /// RocksDB: `BlockBasedTable::Open` in table/block_based/block_based_table_reader.cc.
 pub fn a_file_that_opens_shows_no_fault()
     ensures none { (file : List ℕ) (entries : List Entry) (fault : BbtFault) → Opens file entries → Shows file fault → ⊥ }
