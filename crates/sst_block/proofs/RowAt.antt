@@ -93,7 +93,9 @@ row-joined : (s : Spelled) (after : List ℕ) → row_spelling s ++ after
 row-joined s after = simp append_assoc
 
 -- how long a spelled row is
-length-row : (s : Spelled) → let l = lengths_of s in length (row_spelling s) ≡ l.used + l.rest + l.value
+pub length-row : (s : Spelled) → length (row_spelling s)
+    ≡ length (varint s.shared) + length (varint (length s.row.key - s.shared)) + length (varint (length s.row.value))
+    + (length s.row.key - s.shared) + length s.row.value
 length-row s =
     let rest = drop s.shared s.row.key in
     let size = length-drop s.shared s.row.key in
