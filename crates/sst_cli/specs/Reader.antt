@@ -1,16 +1,25 @@
 -- What the answers of calls that read a file say of what the file reads as. Where a device failed or memory ran out an
 -- answer says nothing.
-use Rattle.std.specs.Prelude.{◌≡◌, List, ℕ, Result, Ok, Err}
+use Rattle.std.specs.Prelude.{◌≡◌, ℕ, ◌≤◌, false, List, [], ◌∷◌, length, All, Option, None, Some, Result, Ok, Err}
+use Rattle.sst_num.specs.Reading.{handle_at}
+use Rattle.sst_num.specs.declared.block_handle.Handle.{Handle}
+use Rattle.sst_key.specs.Entry.{IsOrdered}
+use Rattle.sst_key.specs.declared.entries.Entry.{Entry}
+use Rattle.sst_block.specs.declared.row_form.RowForm.TheVariants.{Index}
+use Rattle.sst_cli.specs.BlockBased.{HasSeq, rows_of}
 use Rattle.sst_num.specs.declared.stops.Stop.{Stop}
 use Rattle.sst_num.specs.declared.stops.Stop.TheVariants.{Damage, Device, Memory}
 use Rattle.sst_block.specs.declared.row_form.RowForm.{RowForm}
 use Rattle.sst_block.specs.declared.fault.BlockFault.{BlockFault}
 use Rattle.sst_block.specs.Block.{Row}
 use Rattle.sst_block.specs.Reading.{block_read}
-use Rattle.sst_cli.specs.Opening.{then_open, as_fault, rows_in, meta_read, footer_start}
+use Rattle.sst_cli.specs.Opening.{then_open, as_fault, rows_in, meta_read, footer_start, block_at, data_read}
 use Rattle.sst_cli.specs.declared.device.folder.DevStop.{DevStop}
 use Rattle.sst_cli.specs.declared.device.folder.DevStop.TheVariants as device
 use Rattle.sst_cli.specs.declared.meta_fault.MetaFault.{MetaFault}
+use Rattle.sst_cli.specs.declared.meta_fault.MetaFault.TheVariants as meta
+use Rattle.sst_cli.specs.declared.bbt_fault.BbtFault.{BbtFault}
+use Rattle.sst_cli.specs.declared.bbt_fault.BbtFault.TheVariants as bbt
 use Rattle.sst_cli.specs.declared.load.Loaded.{Loaded}
 
 -- a stop of an object outside as one of a call that reads a file
@@ -42,3 +51,38 @@ Loads (Ok loaded) file = (meta_read file ≡ Ok loaded.index) × (loaded.end ≡
 Loads (Err (Damage fault)) file = meta_read file ≡ Err fault
 Loads (Err Device) file = Unit {0}
 Loads (Err Memory) file = Unit {0}
+
+-- where the data block stands to which a value of the index leads; the value of each row of an index block is a handle
+abbrev pub place_led : Option (Handle × ℕ) → Result (Option Handle) BbtFault
+place_led None = Err (bbt.Meta meta.NotYet)
+place_led (Some read) = Ok (Some read.0)
+
+-- where the data block stands to which the index rows lead, if there is one
+abbrev pub place_of : List Row → Result (Option Handle) BbtFault
+place_of [] = Ok None
+place_of (row ∷ []) = place_led (handle_at row.value)
+place_of (row ∷ next ∷ rest) = Err (bbt.Meta meta.NotYet)
+
+-- the same of the index block at a handle
+abbrev pub place_read : List ℕ → ℕ → Handle → Result (Option Handle) BbtFault
+place_read file end h =
+    then_open (block_at bbt.Frame (bbt.Block h) (Index false false) file end h) place_of
+
+-- the rows of the data block, if there is one
+abbrev pub data_at : List ℕ → ℕ → Option Handle → Result (List Row) BbtFault
+data_at file end None = Ok []
+data_at file end (Some h) = data_read file end h
+
+-- an answer has the entries whose rows were read, or is the first fault
+abbrev pub Opened : Result (List Entry) (Stop BbtFault) → Result (List Row) BbtFault → Type 0
+Opened (Ok entries) read = read ≡ Ok (rows_of entries)
+Opened (Err (Damage fault)) read = read ≡ Err fault
+Opened (Err Device) read = Unit {0}
+Opened (Err Memory) read = Unit {0}
+
+-- the entries of a file that opens: they increase, their sequence numbers are in range, and their user keys aren't
+-- longer than one may be
+pub record AreEntries (entries : List Entry) : Type 0 where
+  pub ordered : IsOrdered entries
+  pub seqs : All HasSeq entries
+  pub users : All (λ (e : Entry). length e.user ≤ 65536) entries

@@ -69,7 +69,9 @@
 #![tactic(auto)]
 
 mod bbt_fault;
+pub mod bbt_reader;
 mod bbt_writer;
+mod block_rows;
 mod cuts;
 pub mod device;
 mod entry_line;
