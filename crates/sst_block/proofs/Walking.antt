@@ -1,5 +1,5 @@
 -- A walk over the rows of a block goes from one to the next.
-use Rattle.std.proofs.Common.{◌≡◌, ℕ, zero, suc, ◌+◌, ◌<◌, ◌≤◌, Bool, true, false, inl, inr, List, [], ◌∷◌, length, take, drop, map, Option, Some, None, refl, sym, subst, length-drop, arith}
+use Rattle.std.proofs.Common.{◌≡◌, ◌∙◌, ℕ, zero, suc, ◌+◌, ◌<◌, ◌≤◌, Bool, true, false, inl, inr, List, [], ◌∷◌, length, take, drop, map, Option, Some, None, refl, sym, subst, length-drop, arith}
 use Rattle.std.specs.Prelude.{Result, Ok, Err, slice_get, nat_lt}
 use Rattle.std.proofs.lemmas.Bool.{cases_lt, lt-ltb, le-ltb}
 use Rattle.std.proofs.lemmas.List.{drop_all}
@@ -7,7 +7,7 @@ use Rattle.sst_block.specs.declared.row_form.RowForm.{RowForm}
 use Rattle.sst_block.specs.declared.fault.BlockFault.{BlockFault}
 use Rattle.sst_block.specs.declared.iter.BlockIter.{BlockIter}
 use Rattle.sst_block.specs.Block.{Row, Spelled, fresh_starts}
-use Rattle.sst_block.specs.Reading.{Reads, block_read, parts_read, restart_count, rows_end, restarts_fault, unless, then_read, onto_rows, row_at, row_read, rows_from, rows_read, key_before}
+use Rattle.sst_block.specs.Reading.{Reads, Gives, block_read, parts_read, restart_count, rows_end, restarts_fault, unless, then_read, onto_rows, row_at, row_read, rows_from, rows_read, key_before}
 use Rattle.sst_block.specs.Iter.{AreRows, Shows, Walks, IsAt, place_of}
 use Rattle.sst_block.proofs.Meeting.{row-some}
 use Rattle.sst_block.proofs.RowLengths.{row_read-length, row_read-at}
@@ -117,3 +117,28 @@ Walks-next old new told rows i w m same =
     let are : AreRows old.key old.after.now (drop (i + 1) rows) = rw (shows.key) shows.after in
     let moved = step-place new told old.key old.after.now rows (i + 1) m are in
     (record { whole = rw same w.whole; is_at = moved.0 }, moved.1)
+
+-- a walk that was moved to the i-th row stands there exactly where it said so
+pub record Moved (it : BlockIter) (there : Bool) : Type 0 where
+  pub rows : List Row
+  pub i : ℕ
+  pub walks : Walks it rows (place_of rows i)
+  pub told : there ≡ nat_lt i (length rows)
+
+pub Moved-stands : (it : BlockIter) (there : Bool) → Moved it there → there ≡ true → (rows : List Row) × (i : ℕ) × Walks it rows (Some i)
+Moved-stands it there m is =
+    let within : nat_lt m.i (length m.rows) ≡ true = sym m.told ∙ is in
+    (m.rows, m.i, rw within at m.walks)
+
+-- it goes on from there
+pub Moved-next : (it moved : BlockIter) (there told : Bool) → Moved it there → there ≡ true
+    → ((rows : List Row) (i : ℕ) → Walks it rows (Some i) → Walks moved rows (place_of rows (i + 1)))
+    → ((rows : List Row) (i : ℕ) → Walks it rows (Some i) → told ≡ nat_lt (i + 1) (length rows)) → Moved moved told
+Moved-next it moved there told m is moves tells =
+    let s = Moved-stands it there m is in
+    record { rows = s.0; i = s.1 + 1; walks = moves s.0 s.1 s.2; told = tells s.0 s.1 s.2 }
+
+-- a block that is accepted stands for some rows
+pub Gives-reads : (form : RowForm) (block : List ℕ) (n : ℕ) → Gives (Ok n) (block_read form block) → (rows : List Row) × Reads form block rows
+Gives-reads form block n given =
+    (map (λ (s : Spelled). s.row) given.0, record { spelled = given.0; reads = given.1; are_rows = refl })

@@ -61,6 +61,8 @@ mod check;
 mod check_tests;
 mod fault;
 mod iter;
+#[cfg(test)]
+mod iter_tests;
 mod laws;
 mod row;
 mod row_form;
