@@ -1,5 +1,5 @@
 -- What the end of a file says, part by part.
-use Rattle.std.proofs.Common.{◌≡◌, ℕ, ◌-◌, ◌^◌, ◌<◌, nat_lt, true, List, length, Ok, Err, refl, ◌∙◌}
+use Rattle.std.proofs.Common.{◌≡◌, ℕ, ◌^◌, ◌<◌, List, length, Ok, Err, refl, ◌∙◌}
 use Rattle.std.proofs.lemmas.Bool.{lt-ltb}
 use Rattle.sst_num.specs.declared.stops.Stop.{Stop}
 use Rattle.sst_num.specs.declared.stops.Stop.TheVariants.{Damage, Device, Memory}

@@ -1,23 +1,36 @@
-//! A reader of a block-based file.
-ghost use Rattle.std.specs.Prelude.{◌≡◌, ℕ, ◌≤◌, ◌⊎◌, List, Some, Err, IsTrue};
+//! The reader of block-based files. A file is opened, or the first thing that is wrong with it is answered.
+ghost use Rattle.std.specs.Prelude.{◌≡◌, ◌≢◌, ℕ, ◌^◌, ◌≤◌, ◌⊎◌, false, List, length, Some, Err, IsTrue};
+ghost use Rattle.sst_block.specs.declared.row_form.RowForm.TheVariants.{Entries, Index};
 ghost use Rattle.sst_cli.specs.Folder.{file_of, misses};
 ghost use Rattle.sst_cli.specs.Faults.{Rose};
-ghost use Rattle.sst_cli.specs.Opening.{open_read};
-ghost use Rattle.sst_cli.specs.Reader.{Opened};
+ghost use Rattle.sst_cli.specs.Opening.{then_open, with_rows, data_read, index_read, open_read};
+ghost use Rattle.sst_cli.specs.Reader.{Answers, Opened, stop_as, rows_checked, place_of, place_read};
+ghost use Rattle.sst_cli.specs.declared.bbt_fault.BbtFault.TheVariants as bbt;
 
 mod calls;
 
 use crate::bbt_fault::BbtFault;
+use crate::block_rows::{entries_of, first_handle};
+use crate::device::draw::draw_framed;
 use crate::device::folder::Folder;
+use crate::device::frame::FrameFault;
+use crate::load::{Loaded, load};
+use crate::meta_fault::MetaFault;
 pub use calls::Cursor;
+use sst_block::{RowForm, check_block};
 use sst_key::Entry;
-use sst_num::Stop;
+use sst_num::{Handle, Memory, Refused, Stop};
 use std::alloc::Global;
 use std::marker::Model;
 
-/// A reader of a block-based file. Contracts see it as the list of its entries, which is ordered.
-#[derive(Drop)]
+/// A block-based file that is open.
+///
+/// Contracts see it as the list of its entries. They increase, their sequence numbers are below 2^56, and their user
+/// keys have at most 65,536 bytes. For now all entries are kept in memory.
+/// RocksDB: `BlockBasedTable` in table/block_based/block_based_table_reader.h.
+#[derive(Debug, Drop)]
 pub struct BbtReader {
+    /// The entries, in order.
     entries: Vec<Entry>,
 }
 
@@ -33,7 +46,12 @@ impl Model for BbtReader {
     ghost invariant = { λ r. AreEntries r.entries.items };
 }
 
-/// STUB
+/// Opens the named file: reads its end, its index, and its data block.
+///
+/// The first thing that is wrong is answered, in this order: the file's length; the footer; the metaindex; the index;
+/// the data block. For now `NotYet` answers a metaindex with a row and an index with more than one.
+/// RocksDB: `BlockBasedTable::Open` in table/block_based/block_based_table_reader.cc.
+#[tactic(auto, unfolding(crate::specs::Opening::open_read))]
 pub fn open<F: Folder>(
     alloc: Global,
     files: &mut F,
@@ -46,5 +64,135 @@ pub fn open<F: Folder>(
     ensures same_files { F.held files.new ≡ F.held files.old }
     ensures counts { F.faults files.old ≤ F.faults files.new }
 {
-    Err(Stop::Memory)
+    match load(alloc, files, name) {
+        Err(stop) => Err(meta_stop(stop)),
+        Ok(loaded) => open_index(alloc, files, name, loaded),
+    }
+}
+
+/// The stop of a file whose end isn't had.
+fn meta_stop(stop: Stop<MetaFault>) -> Stop<BbtFault>
+    ensures { result ≡ stop_as bbt.Meta stop }
+{
+    match stop {
+        Stop::Damage(fault) => Stop::Damage(BbtFault::Meta(fault)),
+        Stop::Device => Stop::Device,
+        Stop::Memory => Stop::Memory,
+    }
+}
+
+/// The stop of an index or data block that isn't had.
+fn frame_stop(stop: Stop<FrameFault>) -> Stop<BbtFault>
+    ensures { result ≡ stop_as bbt.Frame stop }
+{
+    match stop {
+        Stop::Damage(fault) => Stop::Damage(BbtFault::Frame(fault)),
+        Stop::Device => Stop::Device,
+        Stop::Memory => Stop::Memory,
+    }
+}
+
+/// Opens a file whose end was read.
+fn open_index<F: Folder>(
+    alloc: Global,
+    files: &mut F,
+    name: &str,
+    loaded: Loaded,
+) -> Result<BbtReader, Stop<BbtFault>>
+    ensures told { (file : List ℕ) → file_of (F.held files.old) name.now ≡ Some file → loaded.end ≤ length file
+        → Opened result (index_read file loaded.end loaded.index) }
+    ensures device { result ≡ Err Stop.Device → IsTrue (misses (F.held files.old) name.now loaded.end)
+        ⊎ Rose (F.faults files.old) (F.faults files.new) }
+    ensures same_files { F.held files.new ≡ F.held files.old }
+    ensures counts { F.faults files.old ≤ F.faults files.new }
+{
+    match read_index(alloc, files, name, loaded.end, loaded.index) {
+        Err(stop) => Err(stop),
+        Ok(None) => Ok(BbtReader {
+            entries: Vec::new(alloc),
+        }),
+        Ok(Some(handle)) => read_data(alloc, files, name, loaded.end, handle),
+    }
+}
+
+/// The handle of the data block, if there is one, from the index block at a handle.
+fn read_index<F: Folder>(
+    alloc: Global,
+    files: &mut F,
+    name: &str,
+    end: u64,
+    handle: Handle,
+) -> Result<Option<Handle>, Stop<BbtFault>>
+    ensures told { (file : List ℕ) → file_of (F.held files.old) name.now ≡ Some file → end ≤ length file
+        → Answers result (place_read file end handle) }
+    ensures device { result ≡ Err Stop.Device → IsTrue (misses (F.held files.old) name.now end)
+        ⊎ Rose (F.faults files.old) (F.faults files.new) }
+    ensures same_files { F.held files.new ≡ F.held files.old }
+    ensures counts { F.faults files.old ≤ F.faults files.new }
+{
+    match draw_framed(alloc, files, name, end, handle) {
+        Err(stop) => Err(frame_stop(stop)),
+        Ok(block) => data_place(alloc, block.as_slice(), handle),
+    }
+}
+
+/// The handle of the data block, if there is one, from the bytes of the index block, which stands at `handle`.
+fn data_place(alloc: Global, block: &[u8], handle: Handle) -> Result<Option<Handle>, Stop<BbtFault>>
+    requires { length block.now ≤ 2 ^ 29 }
+    ensures told { Answers result (then_open (rows_checked (bbt.Block handle) (Index false false) block.now) place_of) }
+    ensures device { result ≢ Err Stop.Device }
+{
+    let form = RowForm::Index {
+        user_key: false,
+        delta: false,
+    };
+    match check_block(alloc, block, form) {
+        Err(Refused::Cause(fault)) => Err(Stop::Damage(BbtFault::Block(handle, fault))),
+        Err(Refused::Memory) => Err(Stop::Memory),
+        Ok(0) => Ok(None),
+        Ok(1) => match first_handle(alloc, block) {
+            Ok(Some(place)) => Ok(Some(place)),
+            Ok(None) => Err(Stop::Damage(BbtFault::Meta(MetaFault::NotYet))),
+            Err(Memory) => Err(Stop::Memory),
+        },
+        Ok(_) => Err(Stop::Damage(BbtFault::Meta(MetaFault::NotYet))),
+    }
+}
+
+/// The entries of the data block at a handle.
+fn read_data<F: Folder>(
+    alloc: Global,
+    files: &mut F,
+    name: &str,
+    end: u64,
+    handle: Handle,
+) -> Result<BbtReader, Stop<BbtFault>>
+    ensures told { (file : List ℕ) → file_of (F.held files.old) name.now ≡ Some file → end ≤ length file
+        → Opened result (data_read file end handle) }
+    ensures device { result ≡ Err Stop.Device → IsTrue (misses (F.held files.old) name.now end)
+        ⊎ Rose (F.faults files.old) (F.faults files.new) }
+    ensures same_files { F.held files.new ≡ F.held files.old }
+    ensures counts { F.faults files.old ≤ F.faults files.new }
+{
+    match draw_framed(alloc, files, name, end, handle) {
+        Err(stop) => Err(frame_stop(stop)),
+        Ok(block) => data_entries(alloc, block.as_slice(), handle),
+    }
+}
+
+/// The entries of the bytes of a data block, which stands at `handle`.
+fn data_entries(alloc: Global, block: &[u8], handle: Handle) -> Result<BbtReader, Stop<BbtFault>>
+    requires { length block.now ≤ 2 ^ 29 }
+    ensures told { Opened result (then_open (rows_checked (bbt.Block handle) Entries block.now) (with_rows handle)) }
+    ensures device { result ≢ Err Stop.Device }
+{
+    match check_block(alloc, block, RowForm::Entries) {
+        Err(Refused::Cause(fault)) => Err(Stop::Damage(BbtFault::Block(handle, fault))),
+        Err(Refused::Memory) => Err(Stop::Memory),
+        Ok(0) => Err(Stop::Damage(BbtFault::EmptyBlock(handle))),
+        Ok(count) => match entries_of(alloc, block, count) {
+            Ok(entries) => Ok(BbtReader { entries }),
+            Err(Memory) => Err(Stop::Memory),
+        },
+    }
 }

@@ -77,33 +77,34 @@
 //! block at most, and then added to OUT.
 #![tactic(auto)]
 
-mod bbt_fault;
 mod answering;
-pub mod bbt_reader;
+mod bbt_fault;
+mod bbt_reader;
 mod bbt_writer;
+mod block_rows;
 mod call_command;
-pub mod call_line;
-pub mod call_list;
-pub mod call_reading;
+mod call_line;
+mod call_list;
+mod call_reading;
 #[cfg(test)]
 mod call_tests;
 mod cuts;
 pub mod device;
 mod entry_line;
-pub mod fault_text;
+mod fault_text;
 mod fields;
-pub mod footer;
+mod footer;
 mod laws;
 mod lines;
 mod list_search;
-pub mod load;
+mod load;
 mod meta_fault;
 mod opening_laws;
 mod produce;
 mod program;
 mod reading;
 mod refusal;
-pub mod reply_line;
+mod reply_line;
 mod table_parts;
 mod words;
 

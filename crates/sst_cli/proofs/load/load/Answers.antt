@@ -1,8 +1,7 @@
-use Rattle.std.proofs.Common.{arith, ◌≡◌, ◌-◌, ◌^◌, ◌<◌, ◌∙◌, ◌≤◌, List, ℕ, length, Ok, Err, Some, Option, sym, ap, subst}
+use Rattle.std.proofs.Common.{arith, ◌≡◌, ◌∙◌, length, Ok, Some, Option, ap}
 use Rattle.sst_cli.specs.Folder.{Files, file_of}
 use Rattle.sst_cli.specs.FooterReading.{footer_read, last_bytes}
-use Rattle.sst_cli.specs.Opening.{names_read, footer_start}
-use Rattle.sst_cli.specs.Reader.{Answers}
+use Rattle.sst_cli.specs.Opening.{footer_start}
 use Rattle.sst_cli.proofs.Loading.{names_stop}
 use Rattle.sst_cli.proofs.load.load.Goals as goal
 

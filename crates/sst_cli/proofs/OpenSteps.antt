@@ -1,0 +1,64 @@
+-- What a file opens as, part by part.
+use Rattle.std.proofs.Common.{◌≡◌, ℕ, List, [], ◌∷◌, length, map, Option, None, Some, option_map, Result, Ok, Err, refl, sym, ap, ◌∙◌, subst}
+use Rattle.std.proofs.lemmas.List.{length-map}
+use Rattle.sst_num.specs.declared.block_handle.Handle.{Handle}
+use Rattle.sst_num.specs.declared.stops.Stop.{Stop}
+use Rattle.sst_num.specs.declared.stops.Stop.TheVariants.{Damage, Device, Memory}
+use Rattle.sst_key.specs.declared.entries.Entry.{Entry}
+use Rattle.sst_block.specs.declared.row_form.RowForm.{RowForm}
+use Rattle.sst_block.specs.declared.fault.BlockFault.{BlockFault}
+use Rattle.sst_block.specs.Block.{Row, Spelled}
+use Rattle.sst_block.specs.Reading.{Reads, Gives, block_read}
+use Rattle.sst_cli.specs.Opening.{index_read, open_read}
+use Rattle.sst_cli.specs.Reader.{Loads, Opened, stop_as, rows_checked, place_led}
+use Rattle.sst_cli.specs.declared.meta_fault.MetaFault.{MetaFault}
+use Rattle.sst_cli.specs.declared.meta_fault.MetaFault.TheVariants as meta
+use Rattle.sst_cli.specs.declared.load.Loaded.{Loaded}
+use Rattle.sst_cli.specs.declared.bbt_fault.BbtFault.{BbtFault}
+use Rattle.sst_cli.specs.declared.bbt_fault.BbtFault.TheVariants as bbt
+
+-- a block that was checked reads as so many rows
+pub read_rows : (form : RowForm) (bytes : List ℕ) (n : ℕ) → Gives (Ok n) (block_read form bytes)
+    → (rows : List Row) × Reads form bytes rows × (length rows ≡ n)
+read_rows form bytes n (spelled, reads, many) =
+    let f : Spelled → Row = λ (s : Spelled). s.row in
+    let rows : List Row = map f spelled in
+    (rows, record { spelled = spelled; reads = reads; are_rows = refl }, length-map spelled f ∙ many)
+
+one_of : (rows : List Row) (form : RowForm) (bytes : List ℕ) → Reads form bytes rows → length rows ≡ 1
+    → (row : Row) × Reads form bytes (row ∷ [])
+one_of [] form bytes r n = absurd (cc)
+one_of (row ∷ []) form bytes r n = (row, r)
+one_of (row ∷ next ∷ rest) form bytes r n = absurd (cc)
+
+pub read_one : (form : RowForm) (bytes : List ℕ) → Gives (Ok 1) (block_read form bytes) → (row : Row) × Reads form bytes (row ∷ [])
+read_one form bytes gives = let r = read_rows form bytes 1 gives in one_of r.0 form bytes r.1 r.2
+
+pub checked-rows : {F : Type 0} (block : BlockFault → F) (form : RowForm) (bytes : List ℕ) (rows : List Row) → Reads form bytes rows
+    → rows_checked block form bytes ≡ Ok rows
+checked-rows block form bytes rows r = rw (r.reads) (ap Ok r.are_rows)
+
+-- the handle of the one row of an index
+pub place_some : (read : Option (Handle × ℕ)) (h : Handle) → Some h ≡ option_map (λ (r : Handle × ℕ). r.0) read → place_led read ≡ Ok (Some h)
+place_some None h is = absurd (cc)
+place_some (Some read) h is = ap Ok (sym is)
+
+pub place_none : (read : Option (Handle × ℕ)) → None ≡ option_map (λ (r : Handle × ℕ). r.0) read → place_led read ≡ Err (bbt.Meta meta.NotYet)
+place_none None is = refl
+place_none (Some read) is = absurd (cc)
+
+-- an end that isn't had
+pub stopped : (stop : Stop MetaFault) (file : List ℕ) → Loads (Err stop) file → Opened (Err (stop_as bbt.Meta stop)) (open_read file)
+unfolding open_read
+stopped (Damage fault) file meta = rw meta refl
+stopped Device file meta = tt
+stopped Memory file meta = tt
+
+-- an end that is had
+pub after_end : (result : Result (List Entry) (Stop BbtFault)) (loaded : Loaded) (file : List ℕ) → Loads (Ok loaded) file
+    → Opened result (index_read file loaded.end loaded.index) → Opened result (open_read file)
+unfolding open_read
+after_end result loaded file loads opens =
+    let same : open_read file ≡ index_read file loaded.end loaded.index =
+    rw (loads.0) (ap (λ (end : ℕ). index_read file end loaded.index) (sym loads.1)) in
+    subst (λ (r : Result (List Row) BbtFault). Opened result r) (sym same) opens

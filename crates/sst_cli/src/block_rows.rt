@@ -1,0 +1,74 @@
+//! The rows of blocks that were checked, as what they stand for: a handle, or entries.
+ghost use Rattle.std.specs.Prelude.{◌≡◌, ◌≤◌, ◌^◌, false, List, ◌∷◌, length, IfOk, option_map};
+ghost use Rattle.sst_num.specs.Reading.{handle_at};
+ghost use Rattle.sst_block.specs.Block.{Row, IsInternalKey};
+ghost use Rattle.sst_block.specs.Reading.{Reads};
+ghost use Rattle.sst_block.specs.declared.row_form.RowForm.TheVariants.{Entries, Index};
+ghost use Rattle.sst_cli.specs.BlockBased.{rows_of, row_of, HasSeq};
+ghost use Rattle.sst_cli.specs.Reader.{AreEntries};
+
+use sst_block::{BlockIter, RowForm};
+use sst_key::{Entry, KeyRoom, unpack};
+use sst_num::{Bytes, Handle, Memory, take_handle};
+use std::alloc::Global;
+
+/// The handle that the first row of an index block has as its value. None where it isn't a handle.
+pub fn first_handle(alloc: Global, block: &[u8]) -> Result<Option<Handle>, Memory>
+    requires { (first : Row) × (rest : List Row) × Reads (Index false false) block.now (first ∷ rest) }
+    ensures { IfOk result (λ handle. (first : Row) (rest : List Row) → Reads (Index false false) block.now (first ∷ rest)
+        → handle ≡ option_map (λ read. read.0) (handle_at first.value)) }
+{
+    let room = KeyRoom::new(alloc)?;
+    let form = RowForm::Index {
+        user_key: false,
+        delta: false,
+    };
+    let mut rows = BlockIter::start(block, form, room);
+    rows.first();
+    match take_handle(rows.value()) {
+        Some((handle, _)) => Ok(Some(handle)),
+        None => Ok(None),
+    }
+}
+
+/// The entry of a row: its user key and its value are copied.
+fn entry_of(alloc: Global, key: &[u8], value: &[u8]) -> Result<Entry, Memory>
+    requires { IsInternalKey key.now }
+    ensures row { IfOk result (λ e. row_of e ≡ record { key = key.now; value = value.now }) }
+    ensures seq { IfOk result (λ e. HasSeq e) }
+{
+    match unpack(key) {
+        None => unreachable!(),
+        Some((length, seq, kind)) => {
+            let (user, _) = key.split_at(length);
+            let user = Bytes::from_slice(alloc, user)?;
+            let value = Bytes::from_slice(alloc, value)?;
+            Ok(Entry {
+                user,
+                seq,
+                kind,
+                value,
+            })
+        }
+    }
+}
+
+/// The entries of a data block, of which there are `count`.
+pub fn entries_of(alloc: Global, block: &[u8], count: u32) -> Result<Vec<Entry>, Memory>
+    requires short { length block.now ≤ 2 ^ 29 }
+    requires read { (rows : List Row) × Reads Entries block.now rows × (length rows ≡ count) }
+    ensures rows { IfOk result (λ entries. (rows : List Row) → Reads Entries block.now rows → length rows ≡ count
+        → rows ≡ rows_of entries.items) }
+    ensures are { IfOk result (λ entries. AreEntries entries.items) }
+{
+    let room = KeyRoom::new(alloc)?;
+    let mut rows = BlockIter::start(block, RowForm::Entries, room);
+    let mut entries = Vec::new(alloc);
+    rows.first();
+    for _row in 0..count {
+        let entry = entry_of(alloc, rows.key(), rows.value())?;
+        entries.push(entry)?;
+        rows.next();
+    }
+    Ok(entries)
+}
