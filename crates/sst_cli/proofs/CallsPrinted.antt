@@ -57,13 +57,3 @@ pub input_text_is : (file input : Option (List ℕ)) (reading : Result (List Cal
     → ((bytes : List ℕ) → input ≡ Some bytes → read_calls bytes ≡ reading) → IsInputText file reading text → IsCallsText file input text
 input_text_is file None reading text reads is = (reading, is)
 input_text_is file (Some bytes) reading text reads is = subst (λ (r : Result (List Call) Refusal). IsInputText file r text) (sym (reads bytes refl)) is
-
--- what an input reads as is one
-pub same_calls : (reading : Result (List Call) Refusal) (some others : List Call) → reading ≡ Ok some → reading ≡ Ok others → some ≡ others
-same_calls reading some others a b = let both = sym a ∙ b in cc
-
-pub same_refusal : (reading : Result (List Call) Refusal) (some other : Refusal) → reading ≡ Err some → reading ≡ Err other → some ≡ other
-same_refusal reading some other a b = let both = sym a ∙ b in cc
-
-pub not_both : (reading : Result (List Call) Refusal) (calls : List Call) (refusal : Refusal) → reading ≡ Ok calls → reading ≡ Err refusal → ⊥
-not_both reading calls refusal a b = let both = sym a ∙ b in cc

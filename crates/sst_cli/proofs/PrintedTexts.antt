@@ -6,7 +6,7 @@ use Rattle.sst_key.specs.declared.entries.Entry.{Entry}
 use Rattle.sst_cli.specs.Reading.{read_input}
 use Rattle.sst_cli.specs.Folder.{Files}
 use Rattle.sst_cli.specs.Refusals.{refusal_text}
-use Rattle.sst_cli.specs.Run.{IsTextOf, IsFault, HoldsWritten, Wrote, text_for, done_text}
+use Rattle.sst_cli.specs.Run.{IsWriteText, IsFault, HoldsWritten, Wrote, text_for, done_text}
 use Rattle.sst_cli.specs.Printed.{IsPrinted, Prints}
 use Rattle.sst_cli.specs.declared.refusal.Refusal.{Refusal}
 use Rattle.sst_cli.specs.declared.program.Status.{Status}
@@ -24,16 +24,16 @@ none_printed result text None fault = inr (fault, (0, refl))
 none_printed result text (Some bytes) fault = inr (fault, (0, ap Some (sym (append-nil bytes))))
 
 -- the text of an input that says this, where it is told
-pub text_that_says : (name : List ℕ) (left : Option (List ℕ)) (reading : Result (List Entry) Refusal)
+pub text_that_says : (left : Option (List ℕ)) (reading : Result (List Entry) Refusal)
     → ((input : List ℕ) → left ≡ Some input → text_for (read_input input) ≡ text_for reading)
-    → IsTextOf (Some name) left (text_for reading)
-text_that_says name None reading says = (reading, refl)
-text_that_says name (Some input) reading says = sym (says input refl)
+    → IsWriteText left (text_for reading)
+text_that_says None reading says = (reading, refl)
+text_that_says (Some input) reading says = sym (says input refl)
 
 -- some text, where it doesn't matter which
-pub some_text : (name : List ℕ) (left : Option (List ℕ)) → (text : List ℕ) × IsTextOf (Some name) left text
-some_text name None = (text_for (Ok []), (Ok [], refl))
-some_text name (Some input) = (text_for (read_input input), refl)
+pub some_text : (left : Option (List ℕ)) → (text : List ℕ) × IsWriteText left text
+some_text None = (text_for (Ok []), (Ok [], refl))
+some_text (Some input) = (text_for (read_input input), refl)
 
 -- the answers of reading are one
 pub same_entries : (reading : Result (List Entry) Refusal) (some others : List Entry) → reading ≡ Ok some → reading ≡ Ok others → some ≡ others

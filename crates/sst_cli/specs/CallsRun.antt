@@ -1,17 +1,18 @@
 -- What a `calls` comes to: the text that it prints, the status that it ends with, and what it leaves.
-use Rattle.std.specs.Prelude.{◌≡◌, ◌⊎◌, ℕ, List, [], Option, Some, None, Result, Ok, Err, IsTrue}
+use Rattle.std.specs.Prelude.{◌≡◌, ◌⊎◌, ℕ, List, [], Option, Some, None, Result, Ok, Err, IsTrue, All}
 use Rattle.std.specs.Io.KnownBytes.{append_known}
 use Rattle.sst_key.specs.declared.entries.Entry.{Entry}
 use Rattle.sst_key.specs.declared.calls.Call.{Call}
 use Rattle.sst_block.specs.Block.{Row}
-use Rattle.sst_cli.specs.BlockBased.{rows_of}
+use Rattle.sst_cli.specs.BlockBased.{HasSeq, rows_of}
 use Rattle.sst_cli.specs.Folder.{Files, file_of, misses}
 use Rattle.sst_cli.specs.FaultText.{fault_text}
 use Rattle.sst_cli.specs.Opening.{open_read}
 use Rattle.sst_cli.specs.Reading.{read_calls}
 use Rattle.sst_cli.specs.Refusals.{refusal_text}
 use Rattle.sst_cli.specs.Replies.{answers_text}
-use Rattle.sst_cli.specs.Run.{IsTextOf, usage_text}
+use Rattle.sst_cli.specs.Run.{IsWriteText, usage_text}
+use Rattle.sst_cli.specs.Shows.{Shows}
 use Rattle.sst_cli.specs.Words.{out_name, calls_name}
 use Rattle.sst_cli.specs.declared.bbt_fault.BbtFault.{BbtFault}
 use Rattle.sst_cli.specs.declared.refusal.Refusal.{Refusal}
@@ -20,7 +21,8 @@ use Rattle.sst_cli.specs.declared.program.Status.TheVariants.{Done, File}
 
 -- the text that a file calls for which reads so: the answers of the list whose rows it has, or the line of its fault
 abbrev pub IsFileText : Result (List Row) BbtFault → List Call → List ℕ → Type 0
-IsFileText (Ok rows) calls text = (entries : List Entry) × (rows ≡ rows_of entries) × (text ≡ answers_text entries calls)
+IsFileText (Ok rows) calls text =
+    (entries : List Entry) × All HasSeq entries × (rows ≡ rows_of entries) × (text ≡ answers_text entries calls)
 IsFileText (Err fault) calls text = text ≡ fault_text fault
 
 -- the status that goes with it
@@ -42,6 +44,14 @@ pub record Answered (result : Status) (entries : List Entry) (calls : List Call)
   pub kept : new ≡ old
   pub read : left ≡ Some []
   pub printed : now ≡ append_known before (answers_text entries calls)
+
+-- the first thing that is wrong with the file was printed, and the file shows it
+pub record IsDamaged (result : Status) (file : List ℕ) (before now : Option (List ℕ)) : Type 0 where
+  pub ends : result ≡ File
+  pub fault : BbtFault
+  pub first : open_read file ≡ Err fault
+  pub shown : Shows file fault
+  pub printed : now ≡ append_known before (fault_text fault)
 
 -- the text may be that of these calls on a file, where it is told
 abbrev pub IsAnswersText : Option (List ℕ) → List Call → List ℕ → Type 0
@@ -66,7 +76,7 @@ IsOtherText held input (Some name) text = IsCallsText (file_of held name) input 
 -- the text may be that of the words, with this input and these files, where they are told
 abbrev pub IsTextFor : List (List ℕ) → Option Files → Option (List ℕ) → Option (List ℕ) → List ℕ → Type 0
 IsTextFor words held input None text = IsOtherText held input (calls_name words) text
-IsTextFor words held input (Some name) text = IsTextOf (Some name) input text
+IsTextFor words held input (Some name) text = IsWriteText input text
 
 -- the folder tells that it lacks the file, and the input, where it is told, reads as calls
 pub record IsLacking (held : Option Files) (name : List ℕ) (input : Option (List ℕ)) : Type 0 where

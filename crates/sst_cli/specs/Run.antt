@@ -25,11 +25,10 @@ abbrev pub text_for : Result (List Entry) Refusal → List ℕ
 text_for (Ok entries) = done_text (length entries)
 text_for (Err refusal) = refusal_text refusal
 
--- the text may be that of a command with this name of a file to write, and this input where it is told
-abbrev pub IsTextOf : Option (List ℕ) → Option (List ℕ) → List ℕ → Type 0
-IsTextOf None input text = text ≡ usage_text
-IsTextOf (Some name) None text = (reading : Result (List Entry) Refusal) × (text ≡ text_for reading)
-IsTextOf (Some name) (Some input) text = text ≡ text_for (read_input input)
+-- the text may be that of a `write` with this input, where it is told
+abbrev pub IsWriteText : Option (List ℕ) → List ℕ → Type 0
+IsWriteText None text = (reading : Result (List Entry) Refusal) × (text ≡ text_for reading)
+IsWriteText (Some input) text = text ≡ text_for (read_input input)
 
 -- a fault outside, or want of memory
 abbrev pub IsFault : Status → Type 0

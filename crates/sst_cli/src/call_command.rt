@@ -12,6 +12,7 @@ ghost use Rattle.sst_cli.specs.Reading as reading;
 ghost use Rattle.sst_cli.specs.Refusals.{refusal_text};
 ghost use Rattle.sst_cli.specs.Replies.{answers_text};
 ghost use Rattle.sst_cli.specs.Run.{IsFault};
+ghost use Rattle.sst_cli.specs.declared.bbt_fault.BbtFault as faults;
 ghost use Rattle.sst_cli.specs.declared.refusal.Refusal.{Refusal};
 
 use crate::answering::print_answers;
@@ -21,7 +22,8 @@ use crate::call_reading::read_calls;
 use crate::device::folder::Folder;
 use crate::device::stream::{Intake, Sink};
 use crate::fault_text::fault_line;
-use crate::program::{Status, print, print_refusal, status_of};
+use crate::printing::{print, print_refusal, status_of};
+use crate::program::Status;
 use crate::reading::InputStop;
 use sst_key::Call;
 use sst_num::{Memory, Stop};
@@ -62,6 +64,8 @@ fn answer_calls<F: Folder, O: Sink>(
     ensures printed { (text : List ℕ) × IsAnswersText (file_of (F.held files.old) name.now) calls.now text
         × Prints result text (O.written out.old) (O.written out.new) }
     ensures ends { (result ≡ Status.Done) ⊎ ((result ≡ Status.File) ⊎ IsFault result) }
+    ensures damaged { result ≡ Status.File → (file : List ℕ) → file_of (F.held files.old) name.now ≡ Some file
+        → (fault : faults.BbtFault) × (open_read file ≡ Err fault) }
     ensures absent { IsTrue (misses (F.held files.old) name.now 0) → IsFault result }
     ensures device { result ≡ Status.Device → IsTrue (misses (F.held files.old) name.now 0)
         ⊎ (Rose (F.faults files.old) (F.faults files.new) ⊎ Rose (O.faults out.old) (O.faults out.new)) }
@@ -95,6 +99,8 @@ pub fn calls<F: Folder, I: Intake, O: Sink>(
     ensures printed { (text : List ℕ) × IsCallsText (file_of (F.held files.old) name.now) (I.left input.old) text
         × Prints result text (O.written out.old) (O.written out.new) }
     ensures ends { (result ≡ Status.Done) ⊎ ((result ≡ Status.Input) ⊎ ((result ≡ Status.File) ⊎ IsFault result)) }
+    ensures damaged { result ≡ Status.File → (file : List ℕ) → file_of (F.held files.old) name.now ≡ Some file
+        → (fault : faults.BbtFault) × (open_read file ≡ Err fault) }
     ensures absent { IsTrue (misses (F.held files.old) name.now 0) → (result ≡ Status.Input) ⊎ IsFault result }
     ensures device { result ≡ Status.Device → IsLacking (F.held files.old) name.now (I.left input.old)
         ⊎ (Rose (F.faults files.old) (F.faults files.new)

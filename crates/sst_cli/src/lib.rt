@@ -100,6 +100,7 @@ mod list_search;
 mod load;
 mod meta_fault;
 mod opening_laws;
+mod printing;
 mod produce;
 mod program;
 mod reading;
@@ -107,6 +108,7 @@ mod refusal;
 mod reply_line;
 mod table_parts;
 mod words;
+mod write_command;
 
 pub use bbt_fault::BbtFault;
 pub use footer::Footer;
