@@ -1,37 +1,30 @@
 -- Reading a block finds exactly the rows that it has.
-use Rattle.std.proofs.Common.{◌≡◌, ℕ, ◌+◌, ◌-◌, ◌*◌, ◌^◌, ◌<◌, ◌≤◌, nat_lt, nat_le, true, List, [], ◌∷◌, ◌++◌, length, length-append, length-drop, take, drop, append_assoc, Option, Some, None, Result, Ok, All, inl, inr, refl, sym, subst, ap, ◌∙◌, arith}
+use Rattle.std.proofs.Common.{◌≡◌, ℕ, ◌+◌, ◌-◌, ◌*◌, ◌^◌, ◌<◌, ◌≤◌, List, ◌∷◌, ◌++◌, length, length-append, take, drop, append_assoc, Option, Some, None, Result, Ok, All, refl, sym, subst, ap, ◌∙◌, arith}
 use Rattle.std.specs.List.{flat_map}
-use Rattle.std.proofs.lemmas.Bool.{cases_lt, lt-ltb, le-ltb, ltb-true, le-leb, leb-true, and_parts, and_from}
-use Rattle.std.proofs.lemmas.List.{take-append-drop, take_at, drop_at, drop-drop, drop_all}
-use Rattle.std.proofs.lemmas.Option.{none-some}
+use Rattle.std.proofs.lemmas.List.{take-append-drop, take_at, drop_at, drop-drop}
 use Rattle.sst_num.specs.Spelling.{fixed}
-use Rattle.sst_num.proofs.FixedAt.{fixed_at-joined}
 use Rattle.sst_block.specs.declared.row_form.RowForm.{RowForm}
 use Rattle.sst_block.specs.declared.fault.BlockFault.{BlockFault}
 use Rattle.sst_block.specs.Block.{Row, Spelled, Block, IsRow, AreOrdered, AreRestarts, row_spelling, fresh_starts, restarts_spelling}
 use Rattle.sst_block.specs.Builder.{HasNoFlags}
-use Rattle.sst_block.specs.Reading.{fits_in, number_where, restart_count, rows_end, rows_read, restarts_fault, unless, then_read, with_restarts, parts_read, block_read, Reads}
+use Rattle.sst_block.specs.FirstFault.{rows_of, HasFooter}
+use Rattle.sst_block.specs.Reading.{restart_count, rows_end, rows_read, restarts_fault, unless, then_read, with_restarts, parts_read, block_read, Reads}
 use Rattle.sst_block.proofs.Steps.{length-restarts}
-use Rattle.sst_block.proofs.Follows.{Follows, rows_of, all-follow, followers}
+use Rattle.sst_block.proofs.Follows.{Follows, all-follow, followers}
+use Rattle.sst_block.proofs.Footer.{footer-length, footer-last, footer-read, footer-found}
 use Rattle.sst_block.proofs.RowsRead.{then_ok, unless_ok, rows_from-spelled, rows_from-found}
-use Rattle.sst_block.proofs.RestartsRead.{Rises, number_where-fixed, number_where-found, restarts_fault-spelled, restarts_fault-found}
+use Rattle.sst_block.proofs.RestartsRead.{Rises, restarts_fault-spelled, restarts_fault-found}
 use Rattle.sst_block.proofs.RestartRules.{restarts-parts, restarts-from_parts, restarts-within}
 
--- the count of the restarts is read from the end
-count-read : (xs ys : List ℕ) (count : ℕ) → length ys ≡ 4 * count → 0 < count → count < 2 ^ 32
-    → restart_count (xs ++ (ys ++ fixed 4 count)) ≡ Some count
-count-read xs ys count size some fits =
-    let bytes = xs ++ (ys ++ fixed 4 count) in
-    let a = length-append xs (ys ++ fixed 4 count) in
-    let b = length-append ys (fixed 4 count) in
-    let c = length-append xs ys in
-    let long : 8 ≤ length bytes = omega arith in
-    let at : length (xs ++ ys) ≡ length bytes - 4 = omega arith in
-    let last : drop (length bytes - 4) bytes ≡ fixed 4 count =
-    ap (drop (length bytes - 4)) (sym (append_assoc xs ys (fixed 4 count))) ∙ drop_at (xs ++ ys) (fixed 4 count) (length bytes - 4) at in
-    let good : fits_in (length bytes) count ≡ true =
-    and_from _ _ (lt-ltb 0 count some) (le-leb (4 * count + 4) (length bytes) (omega arith)) in
-    rw (le-ltb (length bytes) 8 long) (ap (number_where (fits_in (length bytes))) last ∙ number_where-fixed (fits_in (length bytes)) count [] fits good)
+-- a count behind the restarts is a footer
+count-footer : (xs ys : List ℕ) (count : ℕ) → length ys ≡ 4 * count → 0 < count → count < 2 ^ 32 → HasFooter (xs ++ (ys ++ fixed 4 count)) count
+count-footer xs ys count size some fits = record {
+  front = xs ++ ys;
+  joined = sym (append_assoc xs ys (fixed 4 count));
+  some = some;
+  fits = fits;
+  room = omega (arith, size, length-append xs ys);
+}
 
 -- what is read of rows, of restarts and of their count
 read-parts : (form : RowForm) (xs ys : List ℕ) (count : ℕ) (spelled : List Spelled) → length ys ≡ 4 * count → 0 < count → count < 2 ^ 32
@@ -45,7 +38,7 @@ read-parts form xs ys count spelled size some fits reads none =
     let end : length xs ≡ rows_end bytes count = omega arith in
     let front : take (rows_end bytes count) bytes ≡ xs = take_at xs tail (rows_end bytes count) end in
     let back : drop (rows_end bytes count) bytes ≡ tail = drop_at xs tail (rows_end bytes count) end in
-    ap (parts_read form bytes) (count-read xs ys count size some fits)
+    ap (parts_read form bytes) (footer-read bytes count (count-footer xs ys count size some fits))
     ∙ ap (λ (t : List ℕ). then_read (rows_read form t) (with_restarts count (drop (rows_end bytes count) bytes))) front
     ∙ ap (λ (r : Result (List Spelled) BlockFault). then_read r (with_restarts count (drop (rows_end bytes count) bytes))) reads
     ∙ ap (λ (d : List ℕ). with_restarts count d spelled) back
@@ -86,28 +79,6 @@ read-complete form bytes rows plain block =
       are_rows = block.are_rows;
     }
 
--- the count that was read stands at the end
-record CountFound (bytes : List ℕ) (count : ℕ) : Type 0 where
-  some : 0 < count
-  room : 4 * count + 4 ≤ length bytes
-  last : drop (length bytes - 4) bytes ≡ fixed 4 count
-
-count-found : (bytes : List ℕ) (count : ℕ) → restart_count bytes ≡ Some count → CountFound bytes count
-count-found bytes count is =
-    elim (cases_lt (length bytes) 8) [
-      | inl short ↦ absurd (none-some count (rw (lt-ltb (length bytes) 8 short) at is))
-      | inr long ↦
-          let end = drop (length bytes - 4) bytes in
-          let found = number_where-found (fits_in (length bytes)) count end (rw (le-ltb (length bytes) 8 long) at is) in
-          let tests = and_parts (nat_lt 0 count) (nat_le (4 * count + 4) (length bytes)) found.1 in
-          let four : length end ≡ 4 = length-drop (length bytes - 4) bytes ∙ omega arith in
-          record {
-            some = ltb-true 0 count tests.0;
-            room = leb-true (4 * count + 4) (length bytes) tests.1;
-            last = fixed_at-joined 4 count end found.0 ∙ ap (λ (xs : List ℕ). fixed 4 count ++ xs) (drop_all 4 end (omega arith));
-          }
-    ]
-
 parts-found : (form : RowForm) (bytes : List ℕ) (read : Option ℕ) (spelled : List Spelled) → parts_read form bytes read ≡ Ok spelled
     → (count : ℕ) × (read ≡ Some count)
     × (then_read (rows_read form (take (rows_end bytes count) bytes)) (with_restarts count (drop (rows_end bytes count) bytes)) ≡ Ok spelled)
@@ -129,15 +100,16 @@ block-found form bytes spelled plain is =
     let count : ℕ = part.0 in
     let end = rows_end bytes count in
     let tail = drop end bytes in
-    let footer = count-found bytes count part.1 in
+    let footer = footer-found bytes count part.1 in
+    let whole = footer-length bytes count footer in
     then_ok (rows_read form (take end bytes)) (with_restarts count tail) spelled part.2
     (λ x first last.
     let tests = unless_ok x spelled (restarts_fault (fresh_starts 0 x) count tail) last in
     let front = rows_from-found (length (take end bytes)) form 0 None (take end bytes) x plain (omega arith) first in
     let found = restarts_fault-found count (fresh_starts 0 x) tail footer.some tests.0 in
-    let sum : end + 4 * count ≡ length bytes - 4 = omega (arith, footer.room) in
+    let sum : end + 4 * count ≡ length bytes - 4 = omega (arith, whole, footer.room) in
     let last : drop (4 * count) tail ≡ fixed 4 (length (0 ∷ found.restarts)) =
-    drop-drop (4 * count) end bytes ∙ ap (λ (n : ℕ). drop n bytes) sum ∙ footer.last ∙ ap (fixed 4) (sym found.count) in
+    drop-drop (4 * count) end bytes ∙ ap (λ (n : ℕ). drop n bytes) sum ∙ footer-last bytes count footer ∙ ap (fixed 4) (sym found.count) in
     let back : tail ≡ restarts_spelling (0 ∷ found.restarts) = found.joined ∙ ap (λ (xs : List ℕ). flat_map (fixed 4) (0 ∷ found.restarts) ++ xs) last in
     let spelling : bytes ≡ flat_map row_spelling x ++ restarts_spelling (0 ∷ found.restarts) =
     sym (take-append-drop end bytes) ∙ ap (λ (xs : List ℕ). xs ++ tail) front.0 ∙ ap (λ (xs : List ℕ). flat_map row_spelling x ++ xs) back in

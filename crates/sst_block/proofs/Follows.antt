@@ -1,11 +1,13 @@
 -- Rows of which each may follow the one before: row by row, and of all rows at once.
-use Rattle.std.proofs.Common.{◌≡◌, ℕ, ◌≤◌, true, List, [], ◌∷◌, map, Option, Some, None, All, refl, ap}
+use Rattle.std.proofs.Common.{◌≡◌, ℕ, ◌≤◌, true, List, [], ◌∷◌, ◌++◌, Option, Some, None, All, refl, ap}
 use Rattle.std.specs.Ordering.{is_lt}
 use Rattle.std.specs.declared.cmp.Ordering.{Ordering}
 use Rattle.std.specs.declared.cmp.Ordering.TheVariants.{Less, Equal, Greater}
 use Rattle.std.proofs.lemmas.List.Elements.{All-nil, All-cons, All-head, All-tail}
 use Rattle.sst_block.specs.declared.row_form.RowForm.{RowForm}
 use Rattle.sst_block.specs.Block.{Row, Spelled, common, SharesFronts, key_cmp, AreOrdered, IsRow}
+use Rattle.sst_block.specs.Builder.{last_key}
+use Rattle.sst_block.specs.FirstFault.{rows_of}
 use Rattle.sst_block.specs.Reading.{is_after, key_before}
 
 -- each row may follow the one before it: it shares no more than it may, has the form, and is after it
@@ -40,10 +42,6 @@ ordered-first : (form : RowForm) (rows : List Row) → OrderedAfter form None ro
 ordered-first form [] is = tt
 ordered-first form (row ∷ rows) is = ordered-after form row rows is.1
 
--- the rows as they are spelled
-abbrev pub rows_of : List Spelled → List Row
-rows_of spelled = map (λ (s : Spelled). s.row) spelled
-
 follows-from : (form : RowForm) (before : Option (List ℕ)) (spelled : List Spelled) → SharesFronts (key_before before) spelled
     → All (IsRow form) (rows_of spelled) → OrderedAfter form before (rows_of spelled) → Follows form before spelled
 follows-from form before [] fronts forms ordered = tt
@@ -72,3 +70,32 @@ pub followers : (form : RowForm) (spelled : List Spelled) → Follows form None 
 followers form spelled follows =
     let parts = follows-parts form None spelled follows in
     (parts.0, parts.1, ordered-first form (rows_of spelled) parts.2)
+
+-- the key of the last row, if there is one
+abbrev pub last_of : Option (List ℕ) → List Row → Option (List ℕ)
+last_of before [] = before
+last_of before (row ∷ rows) = last_of (Some row.key) rows
+
+pub last-key : (before : Option (List ℕ)) (rows : List Row) → key_before (last_of before rows) ≡ last_key (key_before before) rows
+last-key before [] = refl
+last-key before (row ∷ rows) = last-key (Some row.key) rows
+
+after-push : (form : RowForm) (before : Option (List ℕ)) (rows : List Row) (row : Row) → OrderedAfter form before rows
+    → is_after form (last_of before rows) row.key ≡ true → OrderedAfter form before (rows ++ row ∷ [])
+after-push form before [] row ordered after = (after, tt)
+after-push form before (first ∷ rows) row ordered after = (ordered.0, after-push form (Some first.key) rows row ordered.1 after)
+
+after-last : (form : RowForm) (before : Option (List ℕ)) (rows : List Row) (row : Row) → OrderedAfter form before (rows ++ row ∷ [])
+    → is_after form (last_of before rows) row.key ≡ true
+after-last form before [] row ordered = ordered.0
+after-last form before (first ∷ rows) row ordered = after-last form (Some first.key) rows row ordered.1
+
+-- one row more is in order exactly where it is after the last
+pub ordered-push : (form : RowForm) (rows : List Row) (row : Row) → AreOrdered form rows
+    → is_after form (last_of None rows) row.key ≡ true → AreOrdered form (rows ++ row ∷ [])
+ordered-push form rows row ordered after =
+    ordered-first form (rows ++ row ∷ []) (after-push form None rows row (first-ordered form rows ordered) after)
+
+pub ordered-last : (form : RowForm) (rows : List Row) (row : Row) → AreOrdered form (rows ++ row ∷ [])
+    → is_after form (last_of None rows) row.key ≡ true
+ordered-last form rows row ordered = after-last form None rows row (first-ordered form (rows ++ row ∷ []) ordered)

@@ -55,7 +55,7 @@ pub record RestartsFound (fresh : List ℕ) (n before : ℕ) (bytes : List ℕ) 
   pub joined : bytes ≡ flat_map (fixed 4) restarts ++ drop (4 * n) bytes
   pub rises : Rises fresh before restarts
 
-by_number-none : (fault : BlockFault) (read : Option ℕ) (next : ℕ → Option BlockFault) → by_number fault read next ≡ None
+pub by_number-none : (fault : BlockFault) (read : Option ℕ) (next : ℕ → Option BlockFault) → by_number fault read next ≡ None
     → (v : ℕ) × (read ≡ Some v) × (next v ≡ None)
 by_number-none fault None next is = cc
 by_number-none fault (Some v) next is = (v, refl, is)

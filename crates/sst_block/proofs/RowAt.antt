@@ -28,15 +28,17 @@ record LengthsStand (bytes : List ℕ) (l : Lengths) : Type 0 where
   tail : List ℕ
   joined : bytes ≡ varint l.shared ++ (varint l.rest ++ (varint l.value ++ tail))
   takes : l.used ≡ length (varint l.shared) + length (varint l.rest) + length (varint l.value)
+  fits : l.value < 2 ^ 32
 
 -- a number that was read, and what is behind it
 behind-varint32 : (v used : ℕ) (bytes : List ℕ) → varint32_at bytes ≡ Some (v, used)
-    → (bytes ≡ varint v ++ drop used bytes) × (used ≡ length (varint v))
+    → (bytes ≡ varint v ++ drop used bytes) × (used ≡ length (varint v)) × (v < 2 ^ 32)
 behind-varint32 v used bytes read =
-    let found = (varint32_at-found v used bytes read).0 in
+    let whole = varint32_at-found v used bytes read in
+    let found = whole.0 in
     let left : drop used bytes ≡ found.0 =
     ap (λ (k : ℕ). drop k bytes) found.2 ∙ ap (drop (length (varint v))) found.1 ∙ drop-append_seam (varint v) found.0 in
-    (found.1 ∙ ap (λ (tail : List ℕ). varint v ++ tail) (sym left), found.2)
+    (found.1 ∙ ap (λ (tail : List ℕ). varint v ++ tail) (sym left), found.2, whole.1)
 
 -- lengths that were read stand at the front
 lengths_at-found : (bytes : List ℕ) (l : Lengths) → lengths_at bytes ≡ Some l → LengthsStand bytes l
@@ -64,6 +66,7 @@ lengths_at-found bytes l read =
       tail = tail;
       joined = a.0 ∙ ap (λ (xs : List ℕ). varint shared.0 ++ xs) (b.0 ∙ ap (λ (xs : List ℕ). varint rest.0 ++ xs) (drop-drop rest.1 shared.1 bytes ∙ c.0));
       takes = omega (arith, a.1, b.1, c.1);
+      fits = c.2;
     } in
     subst (λ (m : Lengths). LengthsStand bytes m) (same_Some made l is) stands)))
 
@@ -90,7 +93,9 @@ row-joined : (s : Spelled) (after : List ℕ) → row_spelling s ++ after
 row-joined s after = simp append_assoc
 
 -- how long a spelled row is
-length-row : (s : Spelled) → let l = lengths_of s in length (row_spelling s) ≡ l.used + l.rest + l.value
+pub length-row : (s : Spelled) → length (row_spelling s)
+    ≡ length (varint s.shared) + length (varint (length s.row.key - s.shared)) + length (varint (length s.row.value))
+    + (length s.row.key - s.shared) + length s.row.value
 length-row s =
     let rest = drop s.shared s.row.key in
     let size = length-drop s.shared s.row.key in
@@ -170,12 +175,13 @@ pub record RowStands (before bytes : List ℕ) (s : Spelled) (used : ℕ) : Type
   pub some : 0 < used
   pub shares : s.shared ≤ common before s.row.key
   pub short : length s.row.key ≤ 65544
+  pub fits : length s.row.value < 2 ^ 32
 
 -- the key and value that lengths cut out of the bytes behind them
 row-cut : (before tail : List ℕ) (l : Lengths) (key value : List ℕ)
     → key ≡ take l.shared before ++ take l.rest tail → value ≡ take l.value (drop l.rest tail)
     → l.shared ≤ length before → l.rest + l.value ≤ length tail
-    → (length key ≡ l.shared + l.rest) × (row_spelling (record { shared = l.shared; row = record { key = key; value = value } })
+    → (length key ≡ l.shared + l.rest) × (length value ≡ l.value) × (row_spelling (record { shared = l.shared; row = record { key = key; value = value } })
     ++ drop (l.rest + l.value) tail ≡ varint l.shared ++ (varint l.rest ++ (varint l.value ++ tail)))
 row-cut before tail l key value is_key is_value low room =
     let front = length-take-le l.shared before low in
@@ -192,6 +198,7 @@ row-cut before tail l key value is_key is_value low room =
     ∙ take-append-drop l.rest tail in
     let s : Spelled = record { shared = l.shared; row = record { key = key; value = value } } in (
       size,
+      last,
       row-joined s (drop (l.rest + l.value) tail)
           ∙ ap (λ (n : ℕ). varint l.shared ++ (varint n ++ (varint (length value) ++ (drop l.shared key ++ (value ++ drop (l.rest + l.value) tail))))) rest
           ∙ ap (λ (n : ℕ). varint l.shared ++ (varint l.rest ++ (varint n ++ (drop l.shared key ++ (value ++ drop (l.rest + l.value) tail))))) last
@@ -218,7 +225,7 @@ row-stands before bytes l stands low room short =
     drop-drop (l.rest + l.value) l.used bytes ∙ ap (λ (n : ℕ). drop n bytes) sum in
     let joined : bytes ≡ row_spelling s ++ drop used bytes =
     stands.joined ∙ ap (λ (xs : List ℕ). varint l.shared ++ (varint l.rest ++ (varint l.value ++ xs))) (sym left)
-    ∙ sym cut.1 ∙ ap (λ (xs : List ℕ). row_spelling s ++ xs) after in
+    ∙ sym cut.2 ∙ ap (λ (xs : List ℕ). row_spelling s ++ xs) after in
     let whole : length bytes ≡ length (row_spelling s) + length (drop used bytes) = ap length joined ∙ length-append (row_spelling s) (drop used bytes) in
     let behind : length (drop used bytes) ≡ length bytes - used = length-drop used bytes in
     record {
@@ -227,6 +234,7 @@ row-stands before bytes l stands low room short =
       some = omega (arith, stands.takes, varint-some l.shared);
       shares = common-front l.shared before (take l.rest tail) low;
       short = omega (arith, cut.0, short);
+      fits = omega (arith, cut.1, stands.fits);
     }
 
 -- a row that was read stands at the front

@@ -77,7 +77,7 @@ key-passes user seq kind small =
     and_from _ _ (ap is_some parts) (ap is_some last)
 
 -- an internal key passes the test
-internal_key-passes : (key : List ℕ) → IsInternalKey key → is_internal_key key ≡ true
+pub internal_key-passes : (key : List ℕ) → IsInternalKey key → is_internal_key key ≡ true
 internal_key-passes key is = ap is_internal_key is.4 ∙ key-passes is.0 is.1 is.2 is.3
 
 some-before : {A B : Type 0} (f : A → B) (o : Option A) → is_some (option_map f o) ≡ true → is_some o ≡ true
@@ -95,7 +95,7 @@ parts-some key is =
     ]
 
 -- what passes the test is an internal key
-internal_key-from : (key : List ℕ) → is_internal_key key ≡ true → IsInternalKey key
+pub internal_key-from : (key : List ℕ) → is_internal_key key ≡ true → IsInternalKey key
 internal_key-from key passes =
     let both = and_parts _ _ passes in
     let part = parts-some key both.0 in
@@ -117,7 +117,7 @@ internal_key-from key passes =
     (take (length key - 8) key, t / 256, kind, small, joined)
 
 -- a block handle passes the test
-handle-passes : (value : List ℕ) → IsHandle value → is_handle value ≡ true
+pub handle-passes : (value : List ℕ) → IsHandle value → is_handle value ≡ true
 handle-passes value is =
     let joined : value ≡ handle_spelling is.0 ++ [] = is.3 ∙ sym (append-nil (handle_spelling is.0)) in
     let read : handle_at value ≡ Some (is.0, length (handle_spelling is.0)) =
@@ -130,7 +130,7 @@ whole-is n None is = cc
 whole-is n (Some r) is = (r, refl, eqb-true r.1 n is)
 
 -- what passes the test is a block handle
-handle-from : (value : List ℕ) → is_handle value ≡ true → IsHandle value
+pub handle-from : (value : List ℕ) → is_handle value ≡ true → IsHandle value
 handle-from value passes =
     let part = whole-is (length value) (handle_at value) passes in
     let found = handle_at-found part.0.0 part.0.1 value part.1 in

@@ -1,15 +1,16 @@
 -- The rows that are read of some bytes are exactly the rows that are spelled there, each of which may follow the one
 -- before it.
-use Rattle.std.proofs.Common.{◌≡◌, ℕ, zero, suc, ◌+◌, ◌^◌, ◌<◌, ◌≤◌, true, List, [], ◌∷◌, ◌++◌, length, length-append, length-drop, drop, Option, Some, None, Result, Ok, Err, refl, sym, subst, ap, ◌∙◌, arith}
+use Rattle.std.proofs.Common.{◌≡◌, ℕ, zero, suc, ◌+◌, ◌^◌, ◌<◌, ◌≤◌, true, List, [], ◌∷◌, ◌++◌, length, length-append, length-drop, drop, append_assoc, Option, Some, None, Result, Ok, Err, refl, sym, subst, ap, ◌∙◌, arith}
 use Rattle.std.specs.List.{flat_map}
 use Rattle.std.proofs.Math.Seq.{drop-append_seam}
 use Rattle.sst_block.specs.declared.row_form.RowForm.{RowForm}
 use Rattle.sst_block.specs.declared.fault.BlockFault.{BlockFault}
 use Rattle.sst_block.specs.Block.{Spelled, common, row_spelling, IsRow}
 use Rattle.sst_block.specs.Builder.{HasNoFlags}
+use Rattle.sst_block.specs.FirstFault.{rows_of}
 use Rattle.sst_block.specs.Reading.{is_after, row_fault, key_before, unless, then_read, sound_row, row_at, row_read, onto_rows, rows_from}
 use Rattle.sst_block.proofs.BlockLaws.{row_spelling-some}
-use Rattle.sst_block.proofs.Follows.{Follows}
+use Rattle.sst_block.proofs.Follows.{Follows, last_of}
 use Rattle.sst_block.proofs.RowAt.{value-within, row_at-spelled, row_at-found, RowStands}
 use Rattle.sst_block.proofs.RowForms.{row-passes, row-from}
 
@@ -107,3 +108,75 @@ rows_from-found (suc n) form at before (b ∷ bytes) spelled plain within is =
     let all : read.0 ∷ rows ≡ spelled = cc in
     subst (λ (xs : List Spelled). (b ∷ bytes ≡ flat_map row_spelling xs) × Follows form before xs) all
     (whole, (found.stands.shares, found.is_row, found.follows, rest.1))))
+
+-- sound rows, and then one that was read as a fault
+pub record RowsEnd (form : RowForm) (at : ℕ) (before : Option (List ℕ)) (bytes : List ℕ) (fault : BlockFault) : Type 0 where
+  pub good : List Spelled
+  pub rest : List ℕ
+  pub joined : bytes ≡ flat_map row_spelling good ++ rest
+  pub follows : Follows form before good
+  pub some : 0 < length rest
+  pub reads : row_read form (at + length (flat_map row_spelling good)) (last_of before (rows_of good)) rest ≡ Err fault
+
+-- the row that was read as a fault is the first
+pub rows_from-fault : (n : ℕ) (form : RowForm) (at : ℕ) (before : Option (List ℕ)) (bytes : List ℕ) (fault : BlockFault)
+    → HasNoFlags form → length bytes ≤ n → rows_from n form at before bytes ≡ Err fault → RowsEnd form at before bytes fault
+rows_from-fault zero form at before bytes fault plain within is = cc
+rows_from-fault (suc n) form at before [] fault plain within is = cc
+rows_from-fault (suc n) form at before (b ∷ bytes) fault plain within is =
+    then_err (row_read form at before (b ∷ bytes))
+    (λ read. onto_rows read.0 (rows_from n form (at + read.1) (Some read.0.row.key) (drop read.1 (b ∷ bytes)))) fault is
+    (λ here.
+    let start : at ≡ at + 0 = omega arith in
+    record {
+      good = [];
+      rest = b ∷ bytes;
+      joined = refl;
+      follows = tt;
+      some = omega arith;
+      reads = subst (λ (place : ℕ). row_read form place before (b ∷ bytes) ≡ Err fault) start here;
+    })
+    (λ read first later.
+    then_err (rows_from n form (at + read.1) (Some read.0.row.key) (drop read.1 (b ∷ bytes))) (λ (rows : List Spelled). Ok (read.0 ∷ rows)) fault later
+    (λ others.
+    let found = row_read-found form at before (b ∷ bytes) read plain first in
+    let less : length (drop read.1 (b ∷ bytes)) ≤ n = omega (arith, length-drop read.1 (b ∷ bytes), found.stands.some) in
+    let more = rows_from-fault n form (at + read.1) (Some read.0.row.key) (drop read.1 (b ∷ bytes)) fault plain less others in
+    let place : at + read.1 + length (flat_map row_spelling more.good) ≡ at + length (flat_map row_spelling (read.0 ∷ more.good)) =
+    omega (arith, found.stands.takes, length-append (row_spelling read.0) (flat_map row_spelling more.good)) in
+    record {
+      good = read.0 ∷ more.good;
+      rest = more.rest;
+      joined = found.stands.joined ∙ ap (λ (xs : List ℕ). row_spelling read.0 ++ xs) more.joined
+          ∙ sym (append_assoc (row_spelling read.0) (flat_map row_spelling more.good) more.rest);
+      follows = (found.stands.shares, found.is_row, found.follows, more.follows);
+      some = more.some;
+      reads = subst (λ (p : ℕ). row_read form p (last_of (Some read.0.row.key) (rows_of more.good)) more.rest ≡ Err fault) place more.reads;
+    })
+    (λ rows others wrong. cc))
+
+-- a fault behind rows that may follow one another is read
+pub rows_from-faulty : (form : RowForm) (good : List Spelled) (n at : ℕ) (before : Option (List ℕ)) (rest : List ℕ) (fault : BlockFault)
+    → HasNoFlags form → Follows form before good → length (flat_map row_spelling good ++ rest) ≤ n → n < 2 ^ 32 → 0 < length rest
+    → row_read form (at + length (flat_map row_spelling good)) (last_of before (rows_of good)) rest ≡ Err fault
+    → rows_from n form at before (flat_map row_spelling good ++ rest) ≡ Err fault
+rows_from-faulty form [] zero at before rest fault plain follows within fits some reads = absurd (omega arith)
+rows_from-faulty form [] (suc n) at before rest fault plain follows within fits some reads =
+    let start : at + 0 ≡ at = omega arith in
+    let here : row_read form at before rest ≡ Err fault = subst (λ (place : ℕ). row_read form place before rest ≡ Err fault) start reads in
+    rw (rows_from-step n form at before rest some, here) refl
+rows_from-faulty form (s ∷ good) zero at before rest fault plain follows within fits some reads =
+    absurd (omega (arith, within, some, length-append (row_spelling s ++ flat_map row_spelling good) rest))
+rows_from-faulty form (s ∷ good) (suc n) at before rest fault plain follows within fits some reads =
+    let others = flat_map row_spelling good ++ rest in
+    let joined : flat_map row_spelling (s ∷ good) ++ rest ≡ row_spelling s ++ others = append_assoc (row_spelling s) (flat_map row_spelling good) rest in
+    let size : length (flat_map row_spelling (s ∷ good) ++ rest) ≡ length (row_spelling s) + length others = ap length joined ∙ length-append (row_spelling s) others in
+    let one = row_spelling-some s in
+    let value = value-within s in
+    let here = row_read-spelled form at before others s plain follows.0 follows.1 follows.2 (omega arith) in
+    let place : at + length (flat_map row_spelling (s ∷ good)) ≡ at + length (row_spelling s) + length (flat_map row_spelling good) =
+    omega (arith, length-append (row_spelling s) (flat_map row_spelling good)) in
+    let moved = subst (λ (p : ℕ). row_read form p (last_of (Some s.row.key) (rows_of good)) rest ≡ Err fault) place reads in
+    let later = rows_from-faulty form good n (at + length (row_spelling s)) (Some s.row.key) rest fault plain follows.3 (omega arith) (omega arith) some moved in
+    ap (rows_from (suc n) form at before) joined
+    ∙ rw (rows_from-step n form at before (row_spelling s ++ others) (omega (arith, length-append (row_spelling s) others)), here, drop-append_seam (row_spelling s) others, later) refl

@@ -1,5 +1,5 @@
 -- How long a block can be, by the lengths of its rows.
-use Rattle.std.proofs.Common.{◌≡◌, ℕ, zero, suc, ◌+◌, ◌-◌, ◌*◌, ◌/◌, ◌%◌, ◌^◌, ◌==◌, inr, ◌<◌, ◌≤◌, if◌then◌else◌, Bool, true, false, nat_lt, List, [], ◌∷◌, ◌++◌, length, length-append, length-drop, drop, sum_by, arith}
+use Rattle.std.proofs.Common.{◌≡◌, ℕ, zero, suc, ◌+◌, ◌-◌, ◌*◌, ◌/◌, ◌%◌, ◌^◌, ◌==◌, inr, ◌<◌, ◌≤◌, if◌then◌else◌, Bool, true, false, nat_lt, List, [], ◌∷◌, ◌++◌, length, length-append, sum_by, arith}
 use Rattle.std.specs.List.{flat_map}
 use Rattle.sst_num.specs.Spelling.{groups, varint, fixed}
 use Rattle.sst_num.proofs.Fixed.{length-fixed}
@@ -9,6 +9,7 @@ use Rattle.sst_block.specs.declared.row_form.RowForm.{RowForm}
 use Rattle.sst_block.specs.declared.builder.BlockBuilder.{BlockBuilder}
 use Rattle.sst_block.specs.Builder.{row_room, Holds, CanAdd}
 use Rattle.std.proofs.lemmas.List.Sums.{sum_by-cons}
+use Rattle.sst_block.proofs.RowAt.{length-row}
 use Rattle.sst_block.proofs.Steps.{length-chosen, length-restarts}
 
 length-if : (test : Bool) (v : ℕ) (other : List ℕ) (n : ℕ) → 1 ≤ n → length other ≤ n → length (if test then v ∷ [] else other) ≤ n
@@ -30,13 +31,7 @@ length-varint v = length-groups 9 v
 -- a row is at most thirty bytes longer than its key and value
 row-le : (s : Spelled) → length (row_spelling s) ≤ length s.row.key + length s.row.value + 30
 row-le s =
-    let rest = drop s.shared s.row.key in
-    let size = length-drop s.shared s.row.key in
-    let a = length-append rest s.row.value in
-    let b = length-append (varint (length s.row.value)) (rest ++ s.row.value) in
-    let c = length-append (varint (length s.row.key - s.shared)) (varint (length s.row.value) ++ (rest ++ s.row.value)) in
-    let d = length-append (varint s.shared) (varint (length s.row.key - s.shared) ++ (varint (length s.row.value) ++ (rest ++ s.row.value))) in
-    omega (arith, size, a, b, c, d, length-varint (length s.row.value), length-varint (length s.row.key - s.shared), length-varint s.shared)
+    omega (arith, length-row s, length-varint (length s.row.value), length-varint (length s.row.key - s.shared), length-varint s.shared)
 
 -- the most that a row takes before the restarts
 abbrev row_bytes : Row → ℕ

@@ -2,6 +2,7 @@ ghost use Rattle.std.specs.Prelude.{◌≡◌, ℕ, ◌<◌, ◌≤◌, ◌^◌,
 ghost use Rattle.sst_block.specs.Block.{Row, Block, IsRow, AreOrdered};
 ghost use Rattle.sst_block.specs.Builder.{HasNoFlags};
 ghost use Rattle.sst_block.specs.Chosen.{block_of};
+ghost use Rattle.sst_block.specs.FirstFault.{IsFirstFault};
 ghost use Rattle.sst_block.specs.Reading.{block_read, Reads};
 ghost use Rattle.sst_block.specs.declared.fault.BlockFault.{BlockFault};
 ghost use Rattle.sst_block.specs.declared.row_form.RowForm.{RowForm};
@@ -40,4 +41,17 @@ pub fn a_block_has_one_list_of_rows()
         → block_read form bytes ≡ Err fault → Block form bytes rows → ⊥ }
     ensures fault { (form : RowForm) (bytes : List ℕ) → HasNoFlags form → length bytes ≤ 2 ^ 29
         → ((rows : List Row) → Block form bytes rows → ⊥) → (fault : BlockFault) × (block_read form bytes ≡ Err fault) }
+{}
+
+/// The fault that a block reads as is the first that its bytes have.
+///
+/// What the first fault is, is told by the rows and restarts that the bytes spell: before a faulty row stand sound
+/// rows alone, and before a faulty restart sound rows and restarts. `found`: a fault that is read is the first.
+/// `read`: the first fault is the one that is read, in bytes of at most 2^29. So bytes have one first fault at most.
+/// RocksDB: `DecodeEntry` in table/block_based/block_util.h, which stops at the first row that it can't decode.
+pub fn first_fault_is_first()
+    ensures found { (form : RowForm) (bytes : List ℕ) (fault : BlockFault) → HasNoFlags form
+        → block_read form bytes ≡ Err fault → IsFirstFault form bytes fault }
+    ensures read { (form : RowForm) (bytes : List ℕ) (fault : BlockFault) → HasNoFlags form → length bytes ≤ 2 ^ 29
+        → IsFirstFault form bytes fault → block_read form bytes ≡ Err fault }
 {}

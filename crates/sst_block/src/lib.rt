@@ -65,6 +65,7 @@ mod tests;
 pub use builder::BlockBuilder;
 pub use fault::BlockFault;
 pub use laws::{
-    a_block_has_one_list_of_rows, chosen_block_stands_for_its_rows, reading_finds_exactly_the_rows,
+    a_block_has_one_list_of_rows, chosen_block_stands_for_its_rows, first_fault_is_first,
+    reading_finds_exactly_the_rows,
 };
 pub use row_form::RowForm;
