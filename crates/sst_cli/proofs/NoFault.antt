@@ -1,5 +1,5 @@
 -- A file that opens shows no fault.
-use Rattle.std.proofs.Common.{◌≡◌, ℕ, ◌<◌, true, false, List, [], ◌∷◌, length, Result, Ok, Err, refl, sym, subst, inl, inr, arith}
+use Rattle.std.proofs.Common.{◌≡◌, ◌⊎◌, ℕ, ◌<◌, true, false, List, [], ◌∷◌, length, Result, Ok, Err, refl, sym, subst, inl, inr, arith}
 use Rattle.hex.specs.Hex.{IsBytes}
 use Rattle.sst_num.specs.declared.block_handle.Handle.{Handle}
 use Rattle.sst_key.specs.declared.entries.Entry.{Entry}
@@ -108,11 +108,11 @@ no-fault file entries (bbt.EmptyBlock h) o shows =
     let none = rows-once Entries file shows.0 h (rows_of entries) [] shows.1 leads.at shows.3 shows.4 in
     no-entries entries none leads.some
 
--- a file that shows none opens
-opens-if : (file : List ℕ) (read : Result (List Row) BbtFault) → open_read file ≡ read → IsBytes (last_bytes 53 file) → ((fault : BbtFault) → Shows file fault → ⊥)
-    → (entries : List Entry) × Opens file entries
-opens-if file (Ok rows) is bytes none = let found = open_read-found file rows is in (found.0, found.2)
-opens-if file (Err fault) is bytes none = absurd (none fault (open_read-fault file fault bytes is))
+-- a file opens, or shows a fault
+either-by : (file : List ℕ) (read : Result (List Row) BbtFault) → open_read file ≡ read → IsBytes (last_bytes 53 file)
+    → ((entries : List Entry) × Opens file entries) ⊎ ((fault : BbtFault) × Shows file fault)
+either-by file (Ok rows) is bytes = let found = open_read-found file rows is in inl (found.0, found.2)
+either-by file (Err fault) is bytes = inr (fault, open_read-fault file fault bytes is)
 
-pub opens-without_fault : (file : List ℕ) → IsBytes (last_bytes 53 file) → ((fault : BbtFault) → Shows file fault → ⊥) → (entries : List Entry) × Opens file entries
-opens-without_fault file bytes none = opens-if file (open_read file) refl bytes none
+pub either : (file : List ℕ) → IsBytes (last_bytes 53 file) → ((entries : List Entry) × Opens file entries) ⊎ ((fault : BbtFault) × Shows file fault)
+either file bytes = either-by file (open_read file) refl bytes

@@ -1,7 +1,7 @@
 -- The rows of a list of entries, and a list that is written with one entry more.
 use Rattle.std.proofs.Common.{◌≡◌, ◌⊎◌, inl, inr, ℕ, ◌+◌, ◌^◌, ◌<◌, ◌≤◌, List, [], ◌∷◌, ◌++◌, length, length-append, All, refl, sym, ap, ◌∙◌, subst, sum_by, arith}
 use Rattle.std.proofs.lemmas.List.{map-append}
-use Rattle.std.proofs.lemmas.List.Elements.{All-nil, All-cons, All-head, All-tail, All-push}
+use Rattle.std.proofs.lemmas.List.Elements.{All-nil, All-cons, All-head, All-tail, All-push, All-weaker}
 use Rattle.std.proofs.lemmas.List.Sums.{sum_by-cons, sum_by_push}
 use Rattle.std.specs.declared.cmp.Ordering.TheVariants.{Less}
 use Rattle.sst_num.specs.Spelling.{fixed}
@@ -9,15 +9,16 @@ use Rattle.sst_num.proofs.Fixed.{length-fixed}
 use Rattle.sst_key.specs.declared.entries.Entry.{Entry}
 use Rattle.sst_key.specs.Entry.{key_of, tag, IsBefore, IsOrdered, entry_weight, weight}
 use Rattle.sst_key.specs.InternalKey.{internal_cmp}
-use Rattle.sst_key.proofs.KeyParts.{internal_cmp-entries, IsBefore-from_less, less-from_IsBefore}
+use Rattle.sst_key.proofs.KeyParts.{internal_cmp-entries, less-from_IsBefore}
 use Rattle.sst_block.specs.declared.row_form.RowForm.TheVariants.{Entries}
 use Rattle.sst_block.specs.Block.{IsRow, AreOrdered}
 use Rattle.sst_block.specs.Builder.{last_key, row_room}
 use Rattle.sst_block.specs.Chosen.{block_of}
 use Rattle.sst_block.proofs.Size.{block_of-le}
 use Rattle.sst_block.proofs.Steps.{last_key-more, ordered-more, ordered-last}
-use Rattle.sst_cli.specs.BlockBased.{row_of, rows_of}
+use Rattle.sst_cli.specs.BlockBased.{HasSeq, row_of, rows_of}
 use Rattle.sst_cli.specs.Written.{IsInLimits, Fits}
+use Rattle.sst_cli.proofs.EntriesOfRows.{entries-ordered}
 
 pub rows_of-append : (entries : List Entry) (e : Entry) → rows_of (entries ++ e ∷ []) ≡ rows_of entries ++ row_of e ∷ []
 rows_of-append entries e = map-append row_of entries (e ∷ [])
@@ -36,12 +37,9 @@ rows_of-forms [] limits = All-nil (IsRow Entries)
 rows_of-forms (e ∷ rest) limits =
     All-cons (IsRow Entries) (row_of e) (rows_of rest) (row_of-is_row e (All-head IsInLimits e rest limits)) (rows_of-forms rest (All-tail IsInLimits e rest limits))
 
--- entries in order have keys in order, and keys in order are of entries in order
+-- entries in order have keys in order
 less-keys : (a b : Entry) → IsInLimits a → IsInLimits b → IsBefore a b → internal_cmp (key_of a) (key_of b) ≡ Less
 less-keys a b la lb before = internal_cmp-entries a b la.seq lb.seq ∙ less-from_IsBefore a b before
-
-before-keys : (a b : Entry) → IsInLimits a → IsInLimits b → internal_cmp (key_of a) (key_of b) ≡ Less → IsBefore a b
-before-keys a b la lb less = IsBefore-from_less a b (sym (internal_cmp-entries a b la.seq lb.seq) ∙ less)
 
 pub rows_of-ordered : (entries : List Entry) → All IsInLimits entries → IsOrdered entries → AreOrdered Entries (rows_of entries)
 rows_of-ordered [] limits ordered = tt
@@ -51,11 +49,7 @@ rows_of-ordered (a ∷ b ∷ rest) limits ordered =
     (less-keys a b (All-head IsInLimits a (b ∷ rest) limits) (All-head IsInLimits b rest more) ordered.0, rows_of-ordered (b ∷ rest) more ordered.1)
 
 pub IsOrdered-from_rows : (entries : List Entry) → All IsInLimits entries → AreOrdered Entries (rows_of entries) → IsOrdered entries
-IsOrdered-from_rows [] limits ordered = tt
-IsOrdered-from_rows (a ∷ []) limits ordered = tt
-IsOrdered-from_rows (a ∷ b ∷ rest) limits ordered =
-    let more = All-tail IsInLimits a (b ∷ rest) limits in
-    (before-keys a b (All-head IsInLimits a (b ∷ rest) limits) (All-head IsInLimits b rest more) ordered.0, IsOrdered-from_rows (b ∷ rest) more ordered.1)
+IsOrdered-from_rows entries limits ordered = entries-ordered entries (All-weaker IsInLimits HasSeq (λ x within. within.seq) entries limits) ordered
 
 -- the key of the last row is a key of an entry, and so long
 last_key-limits : (before : List ℕ) (entries : List Entry) → 8 ≤ length before → length before ≤ 65544 → All IsInLimits entries

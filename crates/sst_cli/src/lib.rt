@@ -58,6 +58,9 @@
 //! - For each other text the first refusal is printed, a line and a reason, but for the same.
 //! - What is `Written` for a list stands for it ([`written_file_stands_for_its_list`]), an entry's line reads
 //!   back as the entry ([`an_entry_line_reads_back`]), and a list's text as the list ([`a_list_reads_back`]).
+//! - A file opens to a list exactly where it reads as its rows ([`a_file_opens_to_its_rows`]), stands for one
+//!   list at most ([`a_file_stands_for_one_list`]), and, if it is of bytes, shows a fault exactly where it opens
+//!   to none ([`a_file_that_opens_shows_no_fault`]).
 //! - Device is answered only with a counted fault. No file but OUT changes.
 //!
 //! # Calls

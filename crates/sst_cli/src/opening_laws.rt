@@ -1,5 +1,5 @@
 //! What a file reads as is what it stands for.
-ghost use Rattle.std.specs.Prelude.{◌≡◌, ℕ, ◌-◌, List, length, All, Ok, Err};
+ghost use Rattle.std.specs.Prelude.{◌≡◌, ◌⊎◌, ℕ, ◌-◌, List, length, All, Ok, Err};
 ghost use Rattle.hex.specs.Hex.{IsBytes};
 ghost use Rattle.sst_num.specs.declared.block_handle.Handle.{Handle};
 ghost use Rattle.sst_key.specs.declared.entries.Entry.{Entry};
@@ -105,13 +105,13 @@ pub fn a_fault_is_shown()
         → Shows file fault }
 {}
 
-/// A file that opens shows no fault, and a file that shows none opens.
+/// A file that opens shows no fault, and each file opens or shows one.
 ///
-/// `none`: no file both opens to a list and shows a fault. `opens` holds where the last 53 numbers of the list are
+/// `none`: no file both opens to a list and shows a fault. `either` holds where the last 53 numbers of the list are
 /// bytes, as those of a real file are.
 /// RocksDB: `BlockBasedTable::Open` in table/block_based/block_based_table_reader.cc.
 pub fn a_file_that_opens_shows_no_fault()
     ensures none { (file : List ℕ) (entries : List Entry) (fault : BbtFault) → Opens file entries → Shows file fault → ⊥ }
-    ensures opens { (file : List ℕ) → IsBytes (last_bytes 53 file) → ((fault : BbtFault) → Shows file fault → ⊥)
-        → (entries : List Entry) × Opens file entries }
+    ensures either { (file : List ℕ) → IsBytes (last_bytes 53 file)
+        → ((entries : List Entry) × Opens file entries) ⊎ ((fault : BbtFault) × Shows file fault) }
 {}
