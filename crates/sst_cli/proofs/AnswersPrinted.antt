@@ -46,7 +46,7 @@ waits entries calls before now text more position next call rest left split line
       put = so_far.put;
       printed = so_far.printed;
       whole = so_far.whole ∙ ap (λ (l : List ℕ). so_far.put ++ (text ++ l)) parts
-      ∙ ap (λ (l : List ℕ). so_far.put ++ l) (sym (append_assoc text one others)) ∙ ap (λ (l : List ℕ). so_far.put ++ (l ++ others)) (sym line);
+          ∙ ap (λ (l : List ℕ). so_far.put ++ l) (sym (append_assoc text one others)) ∙ ap (λ (l : List ℕ). so_far.put ++ (l ++ others)) (sym line);
     }
 
 -- what waited was put, or a part of it
@@ -59,7 +59,7 @@ puts entries calls before now later text piece waiting position rest split print
       put = so_far.put ++ piece;
       printed = printed ∙ ap (λ (k : Option (List ℕ)). append_known k piece) so_far.printed ∙ append_known-append before so_far.put piece;
       whole = so_far.whole ∙ ap (λ (l : List ℕ). so_far.put ++ (l ++ others)) split ∙ ap (λ (l : List ℕ). so_far.put ++ l) (append_assoc piece waiting others)
-      ∙ sym (append_assoc so_far.put piece (waiting ++ others));
+          ∙ sym (append_assoc so_far.put piece (waiting ++ others));
     }
 
 -- what was put so far is a prefix of the text

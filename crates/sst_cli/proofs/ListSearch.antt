@@ -26,18 +26,18 @@ point-is_count p xs i r within point =
     let most = count-in_length p xs in
     elim (cases_lt i (count_by p xs)) [
       | inl low ↦
-        let here = stands xs i (omega arith) in
-        let passes = passes-ahead p xs r i here.0 here.1 low in
-        let fails = sym (ap p (get_or_from_slice_get xs i here.0 here.0 here.1)) ∙ point.1 i here.0 (omega arith) (omega arith) in
-        cc
+          let here = stands xs i (omega arith) in
+          let passes = passes-ahead p xs r i here.0 here.1 low in
+          let fails = sym (ap p (get_or_from_slice_get xs i here.0 here.0 here.1)) ∙ point.1 i here.0 (omega arith) (omega arith) in
+          cc
       | inr high ↦ elim (cases_lt (count_by p xs) i) [
-          | inl more ↦
+        | inl more ↦
             let here = stands xs (count_by p xs) (omega arith) in
             let fails = fails-behind p xs r (count_by p xs) here.0 here.1 (omega arith) in
             let passes = sym (ap p (get_or_from_slice_get xs (count_by p xs) here.0 here.0 here.1)) ∙ point.0 (count_by p xs) here.0 (omega arith) more in
             cc
-          | inr same ↦ omega arith
-        ]
+        | inr same ↦ omega arith
+      ]
     ]
 
 pub before-parted : (user : List ℕ) (seq : ℕ) (xs : List Entry) → IsOrdered xs → IsPartitionedBy (is_before_target user seq) xs

@@ -1,5 +1,5 @@
 -- What a `calls` comes to: the text that it prints, the status that it ends with, and what it leaves.
-use Rattle.std.specs.Prelude.{◌≡◌, ◌⊎◌, ℕ, List, [], Option, Some, None, Result, Ok, Err, IsTrue, All}
+use Rattle.std.specs.Prelude.{◌≡◌, ℕ, List, [], Option, Some, None, Result, Ok, Err, IsTrue, All}
 use Rattle.std.specs.Io.KnownBytes.{append_known}
 use Rattle.sst_key.specs.declared.entries.Entry.{Entry}
 use Rattle.sst_key.specs.declared.calls.Call.{Call}
@@ -13,7 +13,7 @@ use Rattle.sst_cli.specs.Refusals.{refusal_text}
 use Rattle.sst_cli.specs.Replies.{answers_text}
 use Rattle.sst_cli.specs.Run.{IsWriteText, usage_text}
 use Rattle.sst_cli.specs.Shows.{Shows}
-use Rattle.sst_cli.specs.Words.{out_name, calls_name}
+use Rattle.sst_cli.specs.Words.{calls_name}
 use Rattle.sst_cli.specs.declared.bbt_fault.BbtFault.{BbtFault}
 use Rattle.sst_cli.specs.declared.refusal.Refusal.{Refusal}
 use Rattle.sst_cli.specs.declared.program.Status.{Status}

@@ -33,11 +33,7 @@ fn look_up<'r>(reader: &'r BbtReader, target: &Target) -> (Reply, Option<EntryVi
 }
 
 /// A reply, and the entry on which the cursor stands.
-fn at<'r>(
-    reader: &'r BbtReader,
-    reply: Reply,
-    position: &Cursor,
-) -> (Reply, Option<EntryView<'r>>)
+fn at<'r>(reader: &'r BbtReader, reply: Reply, position: &Cursor) -> (Reply, Option<EntryView<'r>>)
     requires { Belongs reader.now position.now }
     ensures reply { result.0 ≡ reply }
     ensures shown { lent result.1 ≡ option_and_then (λ i. slice_get reader.now i) position.now }

@@ -49,7 +49,11 @@ impl BbtReader {
         ensures place { result ≡ machine.place_in self.now i }
         ensures belongs { Belongs self.now result }
     {
-        if i < self.entries.len() { Some(i) } else { None }
+        if i < self.entries.len() {
+            Some(i)
+        } else {
+            None
+        }
     }
 
     /// The place after, if it is one of the list.

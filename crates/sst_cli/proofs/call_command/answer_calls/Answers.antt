@@ -1,4 +1,4 @@
-use Rattle.std.proofs.Common.{Ok, Err, refl, inl, inr}
+use Rattle.std.proofs.Common.{Ok, Err, refl, sym, inl, inr}
 use Rattle.sst_cli.specs.FaultText.{fault_text}
 use Rattle.sst_cli.specs.Folder.{file_of}
 use Rattle.sst_cli.specs.BlockBased.{rows_of}
@@ -11,18 +11,22 @@ use Rattle.sst_cli.proofs.call_command.answer_calls.Goals as goal
 pub returns-in-Ok-clause-printed : goal.returns-in-Ok-clause-printed
 returns-in-Ok-clause-printed g c =
     let text = answers_text c.in-Ok.reader c.args.calls.now in
-    let file = file_of (g.F.Folder.held c.args.files.now) c.args.name.now in
-    (text, file_text_is file (Ok (rows_of c.in-Ok.reader)) c.args.calls.now text c.in-Ok.ensures.told (c.in-Ok.reader, refl, refl),
-    some_printed _ _ text (g.O.Sink.written c.args.out.now) (g.O.Sink.written c.print_all.new.out) (g.O.Sink.faults c.args.out.now) (g.O.Sink.faults c.print_all.new.out) c.print_all.ensures)
+    let file = file_of (g.F.Folder.held c.args.files.now) c.args.name.now in (
+      text,
+      file_text_is file (Ok (rows_of c.in-Ok.reader)) c.args.calls.now text c.in-Ok.ensures.told (c.in-Ok.reader, rw (sym c.reader.view_is) c.reader.invariant.seqs, refl, refl),
+      some_printed _ _ text (g.O.Sink.written c.args.out.now) (g.O.Sink.written c.print_all.new.out) (g.O.Sink.faults c.args.out.now) (g.O.Sink.faults c.print_all.new.out) c.print_all.ensures,
+    )
 
 -- src/call_command.rt:53:1
 pub returns-in-Err-Damage-clause-printed : goal.returns-in-Err-Damage-clause-printed
 returns-in-Err-Damage-clause-printed g c =
     let text = fault_text c.in-Err-Damage.fault in
     let file = file_of (g.F.Folder.held c.args.files.now) c.args.name.now in
-    let reads = rw c.in-Err-Damage.field-0-is at c.in-Err-Damage.ensures.told in
-    (text, file_text_is file (Err c.in-Err-Damage.fault) c.args.calls.now text reads refl,
-    some_printed _ _ text (g.O.Sink.written c.args.out.now) (g.O.Sink.written c.print_fault.new.out) (g.O.Sink.faults c.args.out.now) (g.O.Sink.faults c.print_fault.new.out) c.print_fault.ensures)
+    let reads = rw c.in-Err-Damage.field-0-is at c.in-Err-Damage.ensures.told in (
+      text,
+      file_text_is file (Err c.in-Err-Damage.fault) c.args.calls.now text reads refl,
+      some_printed _ _ text (g.O.Sink.written c.args.out.now) (g.O.Sink.written c.print_fault.new.out) (g.O.Sink.faults c.args.out.now) (g.O.Sink.faults c.print_fault.new.out) c.print_fault.ensures,
+    )
 
 -- src/call_command.rt:53:1
 pub returns-in-Err-Device-clause-printed : goal.returns-in-Err-Device-clause-printed

@@ -1,6 +1,5 @@
 use Rattle.std.proofs.Common.{Ok, Err, refl}
 use Rattle.sst_cli.specs.Folder.{file_of}
-use Rattle.sst_cli.specs.Reading.{read_calls}
 use Rattle.sst_cli.specs.Refusals.{refusal_text}
 use Rattle.sst_cli.proofs.CallsPrinted.{input_text_is, some_calls_text}
 use Rattle.sst_cli.proofs.PrintedTexts.{some_printed, none_printed}
@@ -18,9 +17,11 @@ pub returns-in-Err-Refused-clause-printed : goal.returns-in-Err-Refused-clause-p
 returns-in-Err-Refused-clause-printed g c =
     let refusal = c.in-Err-Refused.refusal in
     let said = c.read_calls.ensures.refused refusal (rw c.in-Err-Refused.field-0-is at c.in-Err-Refused.is) in
-    let file = file_of (g.F.Folder.held c.args.files.now) c.args.name.now in
-    (refusal_text refusal, input_text_is file (g.I.Intake.left c.args.input.now) (Err refusal) (refusal_text refusal) said refl,
-    some_printed _ _ (refusal_text refusal) (g.O.Sink.written c.args.out.now) (g.O.Sink.written c.print_refusal.new.out) (g.O.Sink.faults c.args.out.now) (g.O.Sink.faults c.print_refusal.new.out) c.print_refusal.ensures)
+    let file = file_of (g.F.Folder.held c.args.files.now) c.args.name.now in (
+      refusal_text refusal,
+      input_text_is file (g.I.Intake.left c.args.input.now) (Err refusal) (refusal_text refusal) said refl,
+      some_printed _ _ (refusal_text refusal) (g.O.Sink.written c.args.out.now) (g.O.Sink.written c.print_refusal.new.out) (g.O.Sink.faults c.args.out.now) (g.O.Sink.faults c.print_refusal.new.out) c.print_refusal.ensures,
+    )
 
 -- src/call_command.rt:85:1
 pub returns-in-Err-Device-clause-printed : goal.returns-in-Err-Device-clause-printed

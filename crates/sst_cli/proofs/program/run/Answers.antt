@@ -1,20 +1,53 @@
-use Rattle.std.proofs.Common.{ℕ, List, Option, refl, subst}
-use Rattle.sst_cli.specs.Run.{IsTextOf, usage_text}
+use Rattle.std.proofs.Common.{ℕ, List, Option, map, refl, subst}
+use Rattle.std.specs.String.{string_bytes}
+use Rattle.sst_cli.specs.CallText.{calls_text}
+use Rattle.sst_cli.specs.CallsRun.{IsTextFor, IsOtherText}
 use Rattle.sst_cli.specs.EntryText.{lines_text}
+use Rattle.sst_cli.specs.Run.{usage_text}
+use Rattle.sst_cli.proofs.CallRoundTrip.{read_calls-text}
+use Rattle.sst_cli.proofs.CallsPrinted.{answered_list, answered_damage, only_out}
 use Rattle.sst_cli.proofs.ListRoundTrip.{read_input-lines}
 use Rattle.sst_cli.proofs.PrintedTexts.{some_printed, named}
 use Rattle.sst_cli.proofs.program.run.Goals as goal
 
-pub returns-in-None-clause-printed : goal.returns-in-None-clause-printed
-returns-in-None-clause-printed g c =
-    let printed = rw c.as_bytes.ensures.value at c.print.ensures in (
-      usage_text,
-      subst (λ (o : Option (List ℕ)). IsTextOf o (g.I.Intake.left c.args.input.now) usage_text) c.in-None.ensures refl,
-      some_printed c.print.result _ usage_text (g.O.Sink.written c.args.out.now) (g.O.Sink.written c.print.new.out) (g.O.Sink.faults c.args.out.now) (g.O.Sink.faults c.print.new.out) printed,
-    )
-
-pub returns-in-Some-clause-headline : goal.returns-in-Some-clause-headline
-returns-in-Some-clause-headline g c = λ name entries words fits bytes left.
+pub returns-in-Some-clause-headline_write : goal.returns-in-Some-clause-headline_write
+returns-in-Some-clause-headline_write g c = λ name entries words fits bytes left.
     let same = named c.in-Some.name.now name _ c.in-Some.ensures words in
     let written = c.write.ensures.written (lines_text entries) entries left (read_input-lines entries fits bytes) in
     rw same at written
+
+pub returns-in-Some-clause-answered : goal.returns-in-Some-clause-answered
+returns-in-Some-clause-answered g c = λ name file text entries calls words held opens left reads.
+    only_out (map string_bytes c.args.words.now) c.in-Some.name.now name _ c.in-Some.ensures words
+
+pub returns-in-Some-calls_name-clause-headline_calls : goal.returns-in-Some-calls_name-clause-headline_calls
+returns-in-Some-calls_name-clause-headline_calls g c = λ name file entries calls words held stands few limits bytes left.
+    let same = named c.in-Some-calls_name.name.now name _ c.in-Some-calls_name.ensures words in
+    let told = rw same at c.calls.ensures.told in
+    answered_list c.calls.result file entries calls (g.F.Folder.held c.args.files.now) (g.F.Folder.held c.calls.new.files) (g.I.Intake.left c.calls.new.input) (g.O.Sink.written c.args.out.now) (g.O.Sink.written c.calls.new.out) stands.opens
+    (told (calls_text calls) file calls left (read_calls-text calls few limits bytes) held) c.calls.ensures.kept
+
+pub returns-in-Some-calls_name-clause-answered : goal.returns-in-Some-calls_name-clause-answered
+returns-in-Some-calls_name-clause-answered g c = λ name file text entries calls words held opens left reads.
+    let same = named c.in-Some-calls_name.name.now name _ c.in-Some-calls_name.ensures words in
+    let told = rw same at c.calls.ensures.told in
+    answered_list c.calls.result file entries calls (g.F.Folder.held c.args.files.now) (g.F.Folder.held c.calls.new.files) (g.I.Intake.left c.calls.new.input) (g.O.Sink.written c.args.out.now) (g.O.Sink.written c.calls.new.out) opens
+    (told text file calls left reads held) c.calls.ensures.kept
+
+pub returns-in-Some-calls_name-clause-damaged : goal.returns-in-Some-calls_name-clause-damaged
+returns-in-Some-calls_name-clause-damaged g c = λ name file text calls words held bytes closed left reads.
+    let same = named c.in-Some-calls_name.name.now name _ c.in-Some-calls_name.ensures words in
+    let told = rw same at c.calls.ensures.told in
+    answered_damage c.calls.result file calls (g.I.Intake.left c.calls.new.input) (g.O.Sink.written c.args.out.now) (g.O.Sink.written c.calls.new.out) bytes closed (told text file calls left reads held)
+
+pub returns-in-None-calls_name-clause-printed : goal.returns-in-None-calls_name-clause-printed
+returns-in-None-calls_name-clause-printed g c =
+    let printed = rw c.as_bytes.ensures.value at c.print.ensures in
+    let words : List (List ℕ) = map string_bytes c.args.words.now in
+    let held = g.F.Folder.held c.args.files.now in
+    let left = g.I.Intake.left c.args.input.now in
+    let no_name = subst (λ (o : Option (List ℕ)). IsOtherText held left o usage_text) c.in-None-calls_name.ensures refl in (
+      usage_text,
+      subst (λ (o : Option (List ℕ)). IsTextFor words held left o usage_text) c.in-None.ensures no_name,
+      some_printed c.print.result _ usage_text (g.O.Sink.written c.args.out.now) (g.O.Sink.written c.print.new.out) (g.O.Sink.faults c.args.out.now) (g.O.Sink.faults c.print.new.out) printed,
+    )
