@@ -1,4 +1,4 @@
-ghost use Rattle.std.specs.Prelude.{◌≡◌, ℕ, ◌+◌, ◌*◌, ◌<◌, ◌≤◌, ◌^◌, List, [], length, take, Some};
+ghost use Rattle.std.specs.Prelude.{◌≡◌, ℕ, ◌+◌, ◌*◌, ◌<◌, ◌≤◌, ◌^◌, List, [], length, take, drop, Some, IfSome};
 ghost use Rattle.sst_block.specs.Builder.{HasNoFlags};
 ghost use Rattle.sst_block.specs.Reading as reading;
 ghost use Rattle.sst_block.specs.Reading.{Gives, block_read, parts_read, then_read, with_restarts, rows_read, rows_end};
@@ -57,7 +57,8 @@ fn meet_row(restarts: &mut Restarts, shared: usize, at: u32)
 /// How many restarts the footer says, if it is good. RocksDB: `Block::NumRestarts` in
 /// table/block_based/block.cc.
 fn restart_count(block: &[u8]) -> Option<u32>
-    ensures { result ≡ reading.restart_count block.now }
+    ensures exact { result ≡ reading.restart_count block.now }
+    ensures within { IfSome result (λ count. (0 < count) × (4 * count + 4 ≤ length block.now)) }
 {
     if block.len() < 2 * NUMBER_LENGTH {
         return None;
@@ -71,17 +72,21 @@ fn restart_count(block: &[u8]) -> Option<u32>
     }
 }
 
+/// Splits a block before so many restarts.
+fn split_block<'b>(block: &'b [u8], count: u32) -> (&'b [u8], &'b [u8])
+    requires { 4 * count + 4 ≤ length block.now }
+    ensures rows { result.0.now ≡ take (rows_end block.now count) block.now }
+    ensures places { result.1.now ≡ drop (rows_end block.now count) block.now }
+{
+    block.split_at(block.len() - NUMBER_LENGTH - NUMBER_LENGTH * count as usize)
+}
+
 /// The rows of a block whose footer is good.
 pub fn rows_of<'b>(block: &'b [u8]) -> &'b [u8]
     ensures { (count : ℕ) → reading.restart_count block.now ≡ Some count → result.now ≡ take (rows_end block.now count) block.now }
 {
     match restart_count(block) {
-        Some(count) => {
-            let (rows, _) = block.split_at(
-                block.len() - NUMBER_LENGTH - NUMBER_LENGTH * count as usize,
-            );
-            rows
-        }
+        Some(count) => split_block(block, count).0,
         None => block,
     }
 }
@@ -160,8 +165,8 @@ fn check_parts(
 /// come first, then that the key has a tag, then its kind or the handle that is its value, then its order. The block
 /// may share less than it could, and may have restarts at any rows that share nothing.
 ///
-/// The rows are gone through once. Room for two keys is taken at the start, and no memory after; it fails where that
-/// runs out. RocksDB: `Block::NumRestarts` and `DataBlockIter` in table/block_based/block.cc, which check less.
+/// The rows are gone through once, in a time that grows with the block and with the lengths of its keys. Room for two
+/// keys is taken at the start, and no memory after; it fails where that runs out. RocksDB: `Block::NumRestarts` and `DataBlockIter` in table/block_based/block.cc, which check less.
 #[tactic(auto, unfolding(crate::specs::Reading::block_read))]
 pub fn check_block(alloc: Global, block: &[u8], form: RowForm) -> Result<u32, Refused<BlockFault>>
     requires short { length block.now ≤ 2 ^ 29 }
@@ -173,8 +178,6 @@ pub fn check_block(alloc: Global, block: &[u8], form: RowForm) -> Result<u32, Re
     };
     let before = KeyRoom::new(alloc)?;
     let next = KeyRoom::new(alloc)?;
-    let (rows, places) = block.split_at(
-        block.len() - NUMBER_LENGTH - NUMBER_LENGTH * count as usize,
-    );
+    let (rows, places) = split_block(block, count);
     check_parts(form, rows, places, count, before, next)
 }

@@ -51,8 +51,26 @@
 //! Where memory runs out a call answers so, and each later call of that builder that can fail answers the same.
 //! No bytes of rows are copied when a block is finished.
 //!
+//! [`check_block`] says of any bytes, at most 2^29 of them, how many rows they have as a block of some form, or their
+//! first fault, exactly as `block_read` (specs/Reading.antt) has it. Nothing of a block is taken on trust: each length has its shortest
+//! spelling and fits, each key is after the one before, entries have known kinds, index rows have handles, and each
+//! restart leads to a row that shares nothing. How much of a common front a row shares, and which of the rows that
+//! share nothing are restarts, is free.
+//!
+//! The first fault is the one that comes first in this order:
+//!
+//! 1. The footer: too few bytes, no restart, or more than there is room for.
+//! 2. The rows, one by one. Of a row: its lengths, and that its key has a tag; then the kind in a key of a data block,
+//!    or the handle in an index block; then that its key is after the one before.
+//! 3. The restarts, one by one: the first is 0, and each other one is after the one before, and is the start of a row
+//!    that shares nothing.
+//!
+//! [`BlockIter`] goes over the rows of a block that was checked, from the first to the last. It shows the key and the
+//! value of each; a key stays until the next move, and a value as long as the block. It takes no memory, and no move
+//! fails.
+//!
 //! A block with a hash part, and index blocks whose separators are user keys or whose handles are differences,
-//! are not made yet.
+//! are neither made nor read yet.
 #![tactic(auto)]
 
 mod builder;

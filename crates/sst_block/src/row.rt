@@ -142,10 +142,7 @@ fn is_after(form: RowForm, first: bool, before: &[u8], key: &[u8]) -> bool
     if first {
         return true;
     }
-    match key_cmp(form, before, key) {
-        Ordering::Less => true,
-        _ => false,
-    }
+    key_cmp(form, before, key).is_lt()
 }
 
 /// The first fault of a row whose lengths are good.

@@ -1,4 +1,4 @@
-use Rattle.std.proofs.Common.{◌≡◌, true, rules}
+use Rattle.std.proofs.Common.{rules}
 use Rattle.sst_block.proofs.Walking.{Moved-stands, Moved-next}
 use Rattle.sst_block.proofs.iter_tests.walks.Goals as goal
 
