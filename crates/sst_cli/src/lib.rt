@@ -59,13 +59,16 @@
 //! - What is `Written` for a list stands for it ([`written_file_stands_for_its_list`]), an entry's line reads
 //!   back as the entry ([`an_entry_line_reads_back`]), and a list's text as the list ([`a_list_reads_back`]).
 //! - Device is answered only with a counted fault. No file but OUT changes.
+//! - A reader opens a file to the entries that its bytes say, or answers the first thing that is wrong
+//!   (`open_read`, specs/Opening.antt).
 //!
 //! # For now
 //!
 //! A part whose crate comes later stands here, and moves unchanged: [`device`], which is the folder, input
 //! and output, and their forms in memory and on a real machine; stored blocks (`device::frame`); the footer
-//! (`footer`); and the writer (`bbt_writer`, `table_parts`). The whole file is made in memory, with one data
-//! block at most, and then added to OUT.
+//! (`footer`); the writer (`bbt_writer`, `table_parts`); and the reader ([`bbt_reader`]) with the lines for what is
+//! wrong with a file ([`fault_text`]), which no command uses yet. The whole file is made in memory, with one data block
+//! at most, and then added to OUT; a reader keeps all entries in memory.
 #![tactic(auto)]
 
 mod bbt_fault;
@@ -76,10 +79,10 @@ mod cuts;
 pub mod device;
 mod entry_line;
 pub mod fault_text;
-pub mod footer;
+mod footer;
 mod laws;
 mod lines;
-pub mod load;
+mod load;
 mod meta_fault;
 mod produce;
 mod program;
