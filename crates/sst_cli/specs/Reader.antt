@@ -13,7 +13,7 @@ use Rattle.sst_block.specs.declared.row_form.RowForm.{RowForm}
 use Rattle.sst_block.specs.declared.fault.BlockFault.{BlockFault}
 use Rattle.sst_block.specs.Block.{Row}
 use Rattle.sst_block.specs.Reading.{block_read}
-use Rattle.sst_cli.specs.Opening.{then_open, as_fault, rows_in, meta_read, footer_start, block_at, data_read}
+use Rattle.sst_cli.specs.Opening.{then_open, as_fault, rows_in, meta_read, footer_start, block_at}
 use Rattle.sst_cli.specs.declared.device.folder.DevStop.{DevStop}
 use Rattle.sst_cli.specs.declared.device.folder.DevStop.TheVariants as device
 use Rattle.sst_cli.specs.declared.meta_fault.MetaFault.{MetaFault}
@@ -67,11 +67,6 @@ place_of (row ∷ next ∷ rest) = Err (bbt.Meta meta.NotYet)
 abbrev pub place_read : List ℕ → ℕ → Handle → Result (Option Handle) BbtFault
 place_read file end h =
     then_open (block_at bbt.Frame (bbt.Block h) (Index false false) file end h) place_of
-
--- the rows of the data block, if there is one
-abbrev pub data_at : List ℕ → ℕ → Option Handle → Result (List Row) BbtFault
-data_at file end None = Ok []
-data_at file end (Some h) = data_read file end h
 
 -- an answer has the entries whose rows were read, or is the first fault
 abbrev pub Opened : Result (List Entry) (Stop BbtFault) → Result (List Row) BbtFault → Type 0

@@ -23,6 +23,9 @@ use sst_num::{Handle, Memory, Refused, Stop};
 use std::alloc::Global;
 use std::marker::Model;
 
+#[cfg(test)]
+mod tests;
+
 /// A block-based file that is open.
 ///
 /// Contracts see it as the list of its entries. They increase, their sequence numbers are below 2^56, and their user

@@ -53,6 +53,8 @@
 //!   are proved against the same traits, but tell nothing of content.
 //! - [`frame::put_frame`] appends exactly the stored block, and wherever it stands in a file, its handle stands
 //!   for it ([`frame::frame_is_framed`]).
+//! - [`draw::draw_framed`] reads the block at a handle in one call, or answers the first thing that is wrong with it:
+//!   its place, its size, its checksum, its type byte. It draws no more than the block and its trailer.
 //!
 //! Not promised: what a real file holds, that nobody else writes it, and that what was written reaches the disk.
 //! The real adapters are the trusted edge: that each asks the system for the right thing is only tested.

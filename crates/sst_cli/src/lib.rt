@@ -62,6 +62,8 @@
 //!   list at most ([`a_file_stands_for_one_list`]), and, if it is of bytes, shows a fault exactly where it opens
 //!   to none ([`a_file_that_opens_shows_no_fault`]).
 //! - Device is answered only with a counted fault. No file but OUT changes.
+//! - A reader opens a file to the entries that its bytes say, or answers the first thing that is wrong
+//!   (`open_read`, specs/Opening.antt).
 //!
 //! # Calls
 //!
@@ -76,8 +78,9 @@
 //!
 //! A part whose crate comes later stands here, and moves unchanged: [`device`], which is the folder, input
 //! and output, and their forms in memory and on a real machine; stored blocks (`device::frame`); the footer
-//! (`footer`); and the writer (`bbt_writer`, `table_parts`). The whole file is made in memory, with one data
-//! block at most, and then added to OUT.
+//! (`footer`); the writer (`bbt_writer`, `table_parts`); and the reader ([`bbt_reader`]) with the lines for what is
+//! wrong with a file ([`fault_text`]), which no command uses yet. The whole file is made in memory, with one data block
+//! at most, and then added to OUT; a reader keeps all entries in memory.
 #![tactic(auto)]
 
 mod answering;

@@ -10,7 +10,7 @@ ghost use Rattle.sst_cli.specs.declared.device.frame.FrameFault.{FrameFault};
 ghost use Rattle.sst_num.specs.declared.stops.Stop.TheVariants as stop;
 
 use crate::device::folder::{DevStop, Folder};
-use crate::device::frame::FrameFault;
+use crate::device::frame::{FrameFault, UNCOMPRESSED};
 use sst_num::{Bytes, Handle, Stop, fixed32};
 use sst_sums::{crc32c, mask};
 use std::alloc::Global;
@@ -22,11 +22,6 @@ const TRAILER_LENGTH: usize = 5;
 
 /// The most bytes of a block that is read.
 const BLOCK_LIMIT: u64 = 1 << 29;
-
-/// The type byte of a block that isn't compressed.
-///
-/// RocksDB: `kNoCompression` in include/rocksdb/compression_type.h.
-const UNCOMPRESSED: u8 = 0;
 
 impl<X> From<DevStop> for Stop<X> {
     ghost from_gives = { λ d s. s ≡ stop_of d };

@@ -8,7 +8,7 @@ use sst_sums::{crc32c, mask};
 /// The type byte of a block that isn't compressed.
 ///
 /// RocksDB: `kNoCompression` in include/rocksdb/compression_type.h.
-const UNCOMPRESSED: u8 = 0;
+pub(crate) const UNCOMPRESSED: u8 = 0;
 
 /// Why the block at a handle can't be had.
 ///
