@@ -22,3 +22,4 @@ pub mod RowsRead
 pub mod Size
 pub mod Steps
 pub mod Walking
+pub mod Accepted

@@ -1,4 +1,7 @@
-ghost use Rattle.std.specs.Prelude.{◌≡◌, ℕ, ◌+◌, ◌*◌, ◌<◌, ◌≤◌, ◌^◌, List, [], length, take, drop, Some, IfSome};
+ghost use Rattle.std.specs.Prelude.{◌≡◌, ℕ, ◌+◌, ◌*◌, ◌<◌, ◌≤◌, ◌^◌, List, [], length, take, drop, Some, IfSome, Err, IfOk};
+ghost use Rattle.sst_block.specs.Block.{Row, Block};
+ghost use Rattle.sst_block.specs.FirstFault.{IsFirstFault};
+ghost use Rattle.sst_block.specs.declared.fault.BlockFault as faults;
 ghost use Rattle.sst_block.specs.Builder.{HasNoFlags};
 ghost use Rattle.sst_block.specs.Reading as reading;
 ghost use Rattle.sst_block.specs.Reading.{Gives, block_read, parts_read, then_read, with_restarts, rows_read, rows_end};
@@ -157,21 +160,12 @@ fn check_parts(
     Ok(found)
 }
 
-/// Checks a block of rows of the form, and answers how many rows it has.
-///
-/// The block has at most 2^29 bytes, and for now an index form has neither user keys nor delta handles. Ok comes
-/// exactly where `block_read` (specs/Reading.antt) reads rows from the bytes, and otherwise the first fault that is
-/// there: that of the footer, then of the rows, one by one, then of the restarts, one by one. Of one row the lengths
-/// come first, then that the key has a tag, then its kind or the handle that is its value, then its order. The block
-/// may share less than it could, and may have restarts at any rows that share nothing.
-///
-/// The rows are gone through once, in a time that grows with the block and with the lengths of its keys. Room for two
-/// keys is taken at the start, and no memory after; it fails where that runs out. RocksDB: `Block::NumRestarts` and `DataBlockIter` in table/block_based/block.cc, which check less.
+/// The number of rows of a block, or its first fault.
 #[tactic(auto, unfolding(crate::specs::Reading::block_read))]
-pub fn check_block(alloc: Global, block: &[u8], form: RowForm) -> Result<u32, Refused<BlockFault>>
+fn count_rows(alloc: Global, block: &[u8], form: RowForm) -> Result<u32, Refused<BlockFault>>
     requires short { length block.now ≤ 2 ^ 29 }
     requires form { HasNoFlags form }
-    ensures exact { Gives result (block_read form block.now) }
+    ensures { Gives result (block_read form block.now) }
 {
     let Some(count) = restart_count(block) else {
         return Err(Refused::Cause(BlockFault::BadFooter));
@@ -180,4 +174,26 @@ pub fn check_block(alloc: Global, block: &[u8], form: RowForm) -> Result<u32, Re
     let next = KeyRoom::new(alloc)?;
     let (rows, places) = split_block(block, count);
     check_parts(form, rows, places, count, before, next)
+}
+
+/// Checks a block of rows of the form, and answers how many rows it has.
+///
+/// The block has at most 2^29 bytes, and for now an index form has neither user keys nor delta handles. Ok comes
+/// exactly where the bytes stand for rows in the sense of `Block` (specs/Block.antt), and otherwise the first fault
+/// that is there: that of the footer, then of the rows, one by one, then of the restarts, one by one. Of one row the
+/// lengths come first, then that the key has a tag, then its kind or the handle that is its value, then its order. The
+/// block may share less than it could, and may have restarts at any rows that share nothing.
+///
+/// The rows are gone through once, in a time that grows with the block and with the lengths of its keys. Room for two
+/// keys is taken at the start, and no memory after; it fails where that runs out. RocksDB: `Block::NumRestarts` and
+/// `DataBlockIter` in table/block_based/block.cc, which check less.
+pub fn check_block(alloc: Global, block: &[u8], form: RowForm) -> Result<u32, Refused<BlockFault>>
+    requires short { length block.now ≤ 2 ^ 29 }
+    requires form { HasNoFlags form }
+    ensures accepts { IfOk result (λ n. (rows : List Row) × Block form block.now rows × (length rows ≡ n)) }
+    ensures refuses { (fault : faults.BlockFault) → result ≡ Err (Refused.Cause fault)
+        → IsFirstFault form block.now fault × ((rows : List Row) → Block form block.now rows → ⊥) }
+    ensures exact { Gives result (block_read form block.now) }
+{
+    count_rows(alloc, block, form)
 }
