@@ -10,14 +10,14 @@ ghost use Rattle.sst_cli.specs.declared.bbt_fault.BbtFault.TheVariants as bbt;
 mod calls;
 
 use crate::bbt_fault::BbtFault;
-use crate::block_rows::{entries_of, first_handle};
+use crate::block_rows::{count_rows, entries_of, first_handle};
 use crate::device::draw::draw_framed;
 use crate::device::folder::Folder;
 use crate::device::frame::FrameFault;
 use crate::load::{Loaded, load};
 use crate::meta_fault::MetaFault;
 pub use calls::Cursor;
-use sst_block::{RowForm, check_block};
+use sst_block::RowForm;
 use sst_key::Entry;
 use sst_num::{Handle, Memory, Refused, Stop};
 use std::alloc::Global;
@@ -149,7 +149,7 @@ fn data_place(alloc: Global, block: &[u8], handle: Handle) -> Result<Option<Hand
         user_key: false,
         delta: false,
     };
-    match check_block(alloc, block, form) {
+    match count_rows(alloc, block, form) {
         Err(Refused::Cause(fault)) => Err(Stop::Damage(BbtFault::Block(handle, fault))),
         Err(Refused::Memory) => Err(Stop::Memory),
         Ok(0) => Ok(None),
@@ -189,7 +189,7 @@ fn data_entries(alloc: Global, block: &[u8], handle: Handle) -> Result<BbtReader
     ensures told { Opened result (then_open (rows_checked (bbt.Block handle) Entries block.now) (with_rows handle)) }
     ensures device { result ≢ Err Stop.Device }
 {
-    match check_block(alloc, block, RowForm::Entries) {
+    match count_rows(alloc, block, RowForm::Entries) {
         Err(Refused::Cause(fault)) => Err(Stop::Damage(BbtFault::Block(handle, fault))),
         Err(Refused::Memory) => Err(Stop::Memory),
         Ok(0) => Err(Stop::Damage(BbtFault::EmptyBlock(handle))),

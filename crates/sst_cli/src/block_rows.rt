@@ -2,15 +2,25 @@
 ghost use Rattle.std.specs.Prelude.{◌≡◌, ◌≤◌, ◌^◌, false, List, ◌∷◌, length, IfOk, option_map};
 ghost use Rattle.sst_num.specs.Reading.{handle_at};
 ghost use Rattle.sst_block.specs.Block.{Row, IsInternalKey};
-ghost use Rattle.sst_block.specs.Reading.{Reads};
+ghost use Rattle.sst_block.specs.Builder.{HasNoFlags};
+ghost use Rattle.sst_block.specs.Reading.{Gives, Reads, block_read};
 ghost use Rattle.sst_block.specs.declared.row_form.RowForm.TheVariants.{Entries, Index};
 ghost use Rattle.sst_cli.specs.BlockBased.{rows_of, row_of, HasSeq};
 ghost use Rattle.sst_cli.specs.Reader.{AreEntries};
 
-use sst_block::{BlockIter, RowForm};
+use sst_block::{BlockFault, BlockIter, RowForm, check_block};
 use sst_key::{Entry, KeyRoom, unpack};
-use sst_num::{Bytes, Handle, Memory, take_handle};
+use sst_num::{Bytes, Handle, Memory, Refused, take_handle};
 use std::alloc::Global;
+
+/// How many rows a block has, or its first fault.
+pub fn count_rows(alloc: Global, block: &[u8], form: RowForm) -> Result<u32, Refused<BlockFault>>
+    requires short { length block.now ≤ 2 ^ 29 }
+    requires form { HasNoFlags form }
+    ensures { Gives result (block_read form block.now) }
+{
+    check_block(alloc, block, form)
+}
 
 /// The handle that the first row of an index block has as its value. None where it isn't a handle.
 pub fn first_handle(alloc: Global, block: &[u8]) -> Result<Option<Handle>, Memory>

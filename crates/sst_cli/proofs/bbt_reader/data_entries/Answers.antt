@@ -3,4 +3,4 @@ use Rattle.sst_cli.proofs.OpenSteps.{read_rows}
 use Rattle.sst_cli.proofs.bbt_reader.data_entries.Goals as goal
 
 pub entries_of-requires-clause-read : goal.entries_of-requires-clause-read
-entries_of-requires-clause-read c = read_rows Entries c.args.block.now c.in-Ok.count c.in-Ok.ensures.exact
+entries_of-requires-clause-read c = read_rows Entries c.args.block.now c.in-Ok.count c.in-Ok.ensures

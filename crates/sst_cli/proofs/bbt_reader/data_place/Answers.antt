@@ -10,16 +10,16 @@ use Rattle.sst_cli.proofs.OpenSteps.{read_one, checked-rows, place_some, place_n
 use Rattle.sst_cli.proofs.bbt_reader.data_place.Goals as goal
 
 pub first_handle-requires : goal.first_handle-requires
-first_handle-requires c = let r = read_one (Index false false) c.args.block.now (rw c.in-Ok-eq1.field-0-test at c.in-Ok-eq1.ensures.exact) in (r.0, [], r.1)
+first_handle-requires c = let r = read_one (Index false false) c.args.block.now (rw c.in-Ok-eq1.field-0-test at c.in-Ok-eq1.ensures) in (r.0, [], r.1)
 
 pub returns-in-Ok-Some-clause-told : goal.returns-in-Ok-Some-clause-told
 returns-in-Ok-Some-clause-told c =
-    let r = read_one (Index false false) c.args.block.now (rw c.in-Ok-eq1.field-0-test at c.in-Ok-eq1.ensures.exact) in
+    let r = read_one (Index false false) c.args.block.now (rw c.in-Ok-eq1.field-0-test at c.in-Ok-eq1.ensures) in
     let all = checked-rows (bbt.Block c.args.handle) (Index false false) c.args.block.now (r.0 ∷ []) r.1 in
     ap (λ (rows : Result (List Row) BbtFault). then_open rows place_of) all ∙ place_some (handle_at r.0.value) c.in-Ok-Some.place (sym c.in-Ok-Some.field-0-is ∙ c.in-Ok-Some.ensures r.0 [] r.1)
 
 pub returns-in-Ok-None-clause-told : goal.returns-in-Ok-None-clause-told
 returns-in-Ok-None-clause-told c =
-    let r = read_one (Index false false) c.args.block.now (rw c.in-Ok-eq1.field-0-test at c.in-Ok-eq1.ensures.exact) in
+    let r = read_one (Index false false) c.args.block.now (rw c.in-Ok-eq1.field-0-test at c.in-Ok-eq1.ensures) in
     let all = checked-rows (bbt.Block c.args.handle) (Index false false) c.args.block.now (r.0 ∷ []) r.1 in
     ap (λ (rows : Result (List Row) BbtFault). then_open rows place_of) all ∙ place_none (handle_at r.0.value) (sym c.in-Ok-None.field-0-is ∙ c.in-Ok-None.ensures r.0 [] r.1)
