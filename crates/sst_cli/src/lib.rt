@@ -113,6 +113,7 @@ mod reading;
 mod refusal;
 mod reply_line;
 mod table_parts;
+mod way_laws;
 mod words;
 mod write_command;
 
@@ -129,3 +130,4 @@ pub use opening_laws::{
     a_stored_block_is_read, a_written_file_reads_back, what_opens_is_ordered,
 };
 pub use program::{Status, run};
+pub use way_laws::the_way_is_the_lists;
