@@ -7,7 +7,7 @@ use Rattle.std.specs.declared.cmp.Ordering.{Ordering}
 use Rattle.std.specs.declared.cmp.Ordering.TheVariants.{Less, Equal, Greater}
 use Rattle.sst_key.specs.declared.entries.Kind.TheVariants.{Value}
 use Rattle.sst_key.specs.declared.entries.Entry.{Entry}
-use Rattle.sst_key.specs.Entry.{key_of, tag, kind_number}
+use Rattle.sst_key.specs.Entry.{key_of, tag}
 use Rattle.sst_key.specs.InternalKey.{user_of, tag_of}
 use Rattle.sst_key.specs.ListMachine.{is_before_target, is_up_to_target}
 use Rattle.sst_key.proofs.KeyParts.{user_of-key, tag_of-key, tag-fits}

@@ -1,5 +1,5 @@
 -- Where the separators separate, the way of the index is the way of the list.
-use Rattle.std.proofs.Common.{◌≡◌, ℕ, ◌+◌, ◌<◌, ◌≤◌, Bool, true, false, cond, List, [], ◌∷◌, ◌++◌, length, All, count_by, slice_get, Option, None, Some, option_and_then, refl, sym, ap, ◌∙◌, inl, inr, length-append, arith}
+use Rattle.std.proofs.Common.{◌≡◌, ℕ, ◌+◌, Bool, true, false, cond, List, [], ◌∷◌, ◌++◌, length, All, count_by, slice_get, Option, None, Some, option_and_then, refl, sym, ap, ◌∙◌, inl, inr, length-append, arith}
 use Rattle.std.specs.Option.{option_map}
 use Rattle.std.proofs.lemmas.Bool.{cases_lt}
 use Rattle.std.proofs.lemmas.List.Elements.{All-nil, All-cons, All-head, All-tail}
@@ -9,7 +9,7 @@ use Rattle.sst_key.specs.declared.entries.Entry.{Entry}
 use Rattle.sst_key.specs.declared.calls.Call.{Call}
 use Rattle.sst_key.specs.declared.calls.Call.TheVariants.{Get, First, Last, Seek, SeekForPrev, Next, Prev}
 use Rattle.sst_key.specs.declared.calls.Format.TheVariants.{Block}
-use Rattle.sst_key.specs.ListMachine.{answer_of, replies_from, below, place_in, place_before, last_of, seek_of, seek_for_prev_of, get_of, shows, lands, where_passes, is_of_user, is_before_target, is_up_to_target}
+use Rattle.sst_key.specs.ListMachine.{answer_of, replies_from, below, place_in, place_before, seek_of, seek_for_prev_of, get_of, shows, lands, where_passes, is_of_user, is_before_target, is_up_to_target}
 use Rattle.sst_key.proofs.Counting.{count-yes, count-no}
 use Rattle.sst_key.proofs.Landings.{in-place, in-no_place}
 use Rattle.sst_cli.specs.BlockBased.{HasSeq}

@@ -2,7 +2,7 @@
 -- which a target leads. Where the separators separate the blocks, these are the answers of the list.
 -- RocksDB: BlockBasedTableIterator (SeekImpl, SeekForPrev) in table/block_based/block_based_table_iterator.cc, and
 -- BlockBasedTable::Get in table/block_based/block_based_table_reader.cc.
-use Rattle.std.specs.Prelude.{◌≡◌, ◌≢◌, ℕ, ◌+◌, ◌*◌, ◌<◌, Bool, if◌then◌else◌, List, [], ◌∷◌, ◌++◌, length, count_by, slice_get, All, Option, None, Some, option_and_then}
+use Rattle.std.specs.Prelude.{◌≡◌, ◌≢◌, ℕ, ◌+◌, ◌*◌, Bool, if◌then◌else◌, List, [], ◌∷◌, ◌++◌, length, count_by, slice_get, All, Option, None, Some, option_and_then}
 use Rattle.std.specs.Option.{option_map}
 use Rattle.std.specs.Ordering.{nat_cmp, ordering_then, is_lt}
 use Rattle.std.specs.Cmp.Lexicographic.{slice_cmp}
