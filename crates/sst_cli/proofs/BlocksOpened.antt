@@ -3,12 +3,11 @@ use Rattle.std.proofs.Common.{◌≡◌, ℕ, ◌^◌, ◌<◌, false, List, [],
 use Rattle.std.proofs.lemmas.List.{append-nil}
 use Rattle.std.proofs.lemmas.List.Elements.{All-head}
 use Rattle.sst_num.specs.Reading.{handle_at}
-use Rattle.sst_num.specs.declared.block_handle.Handle.{Handle}
 use Rattle.sst_key.specs.declared.entries.Entry.{Entry}
 use Rattle.sst_block.specs.declared.row_form.RowForm.TheVariants.{Index}
 use Rattle.sst_block.specs.Block.{Row, IsRow}
-use Rattle.sst_cli.specs.BlockBased.{rows_of, Runs, Opens}
-use Rattle.sst_cli.specs.Opening.{RowBlock, then_open, as_fault, block_at, footer_start, meta_read, led_to, runs_read, blocks_of_runs, rows_joined, index_read, index_blocks_read, open_read, blocks_read}
+use Rattle.sst_cli.specs.BlockBased.{Runs, Opens}
+use Rattle.sst_cli.specs.Opening.{RowBlock, then_open, as_fault, block_at, footer_start, meta_read, led_to, runs_read, as_block, blocks_of_runs, rows_joined, index_read, index_blocks_read, open_read, blocks_read}
 use Rattle.sst_cli.specs.TableBlocks.{blocks_led, blocks_in, row_blocks_of}
 use Rattle.sst_cli.specs.declared.bbt_fault.BbtFault.{BbtFault}
 use Rattle.sst_cli.specs.declared.bbt_fault.BbtFault.TheVariants as bbt
@@ -22,7 +21,7 @@ runs-blocks : (file : List ℕ) (end : ℕ) (rows : List Row) (entries : List En
     → blocks_of_runs file end rows ≡ Ok (row_blocks_of (blocks_led rows entries))
 runs-blocks file end [] entries short runs = refl
 runs-blocks file end (row ∷ []) entries short runs =
-    ap (λ r. then_open r (λ rows. Ok (record { separator = row.key; rows = rows } ∷ []))) (led_to-entries file end row entries short runs)
+    ap (λ r. then_open r (as_block row.key)) (led_to-entries file end row entries short runs)
 runs-blocks file end (row ∷ next ∷ rest) entries short runs = absurd runs
 
 pub blocks_read-opens : (file : List ℕ) (entries : List Entry) (opens : Opens file entries)
@@ -76,7 +75,7 @@ same-steps (Ok x) f g k same = same x
 same-steps (Err fault) f g k same = refl
 
 led-rows : (row : Row) (led : Result (List Row) BbtFault)
-    → led ≡ then_open (then_open led (λ rows. Ok (record { separator = row.key; rows = rows } ∷ []))) (λ blocks. Ok (rows_joined blocks))
+    → led ≡ then_open (then_open led (as_block row.key)) (λ blocks. Ok (rows_joined blocks))
 led-rows row (Ok rows) = ap Ok (sym (append-nil rows))
 led-rows row (Err fault) = refl
 

@@ -16,11 +16,14 @@ use Rattle.sst_key.proofs.TargetOrder.{up_to-from_words}
 use Rattle.sst_block.specs.Block.{Row}
 use Rattle.sst_block.specs.Builder.{last_key}
 use Rattle.sst_cli.specs.BlockBased.{HasSeq, rows_of, AreSeparated, BlockBased, Opens, Runs}
-use Rattle.sst_cli.specs.TableBlocks.{blocks_led, blocks_in}
+use Rattle.sst_cli.specs.TableBlocks.{blocks_led, blocks_in, row_block_of, row_blocks_of}
 use Rattle.sst_cli.specs.Way.{IndexedBlock, IsUpToSeparator, IsAfterSeparator, Separate, joined, way_replies}
 use Rattle.sst_cli.proofs.OneList.{opens-ordered}
 use Rattle.sst_cli.proofs.SeparatorOrder.{Before, UpTo, ahead, tagged, upto-words}
-use Rattle.sst_cli.proofs.WayLaws.{replies-same}
+use Rattle.sst_cli.proofs.WayLaws.{All-front, All-back, replies-same}
+use Rattle.sst_cli.proofs.EntriesOfRows.{rows_of-one}
+use Rattle.sst_cli.specs.Opening.{RowBlock}
+use Rattle.sst_cli.specs.Replies.{lines_of, answers_from, answers_text, way_from, way_text}
 
 not-from_le : (r : Ordering) → is_le r ≡ true → r ≢ Greater
 not-from_le Less is = λ e. cc
@@ -93,10 +96,38 @@ stands-separate file entries stands =
     let are = opens-ordered file entries stands.opens in
     led-separate stands.opens.index_rows entries are.0 are.1 stands.separated
 
+pub opens-seqs : (file : List ℕ) (entries : List Entry) (opens : Opens file entries) → All HasSeq (joined (blocks_in file entries opens))
+opens-seqs file entries opens =
+    subst (λ (es : List Entry). All HasSeq es) (sym (opens-joined file entries opens)) (opens-ordered file entries opens).1
+
 pub stands-replies : (file : List ℕ) (entries : List Entry) (stands : BlockBased file entries) (calls : List Call)
     → way_replies (blocks_in file entries stands.opens) calls ≡ replies Block 0 entries calls
 stands-replies file entries stands calls =
-    let whole = opens-joined file entries stands.opens in
-    let seqs = subst (λ (es : List Entry). All HasSeq es) (sym whole) (opens-ordered file entries stands.opens).1 in
-    replies-same (blocks_in file entries stands.opens) None calls (stands-separate file entries stands) seqs
-    ∙ ap (λ (es : List Entry). replies Block 0 es calls) whole
+    replies-same (blocks_in file entries stands.opens) None calls (stands-separate file entries stands) (opens-seqs file entries stands.opens)
+    ∙ ap (λ (es : List Entry). replies Block 0 es calls) (opens-joined file entries stands.opens)
+
+-- and the text of the answers is that of the list's
+pub stands-text : (file : List ℕ) (entries : List Entry) (stands : BlockBased file entries) (calls : List Call)
+    → way_text (blocks_in file entries stands.opens) calls ≡ answers_text entries calls
+unfolding way_from answers_from
+stands-text file entries stands calls =
+    ap (λ (es : List Entry). lines_of es calls (way_replies (blocks_in file entries stands.opens) calls)) (opens-joined file entries stands.opens)
+    ∙ ap (lines_of entries calls) (stands-replies file entries stands calls)
+
+-- the blocks as they are read tell the blocks
+block-made : (a b : List ℕ) (xs ys : List Entry) → a ≡ b → xs ≡ ys
+    → ◌≡◌ {A = IndexedBlock} (record { separator = a; entries = xs }) (record { separator = b; entries = ys })
+block-made a b xs ys same are = rw (same, are) refl
+
+pub row_blocks-one : (a b : List IndexedBlock) → All HasSeq (joined a) → All HasSeq (joined b) → row_blocks_of a ≡ row_blocks_of b → a ≡ b
+row_blocks-one [] [] seqs_a seqs_b same = refl
+row_blocks-one [] (y ∷ b) seqs_a seqs_b same = cc
+row_blocks-one (x ∷ a) [] seqs_a seqs_b same = cc
+row_blocks-one (x ∷ a) (y ∷ b) seqs_a seqs_b same =
+    let first : row_block_of x ≡ row_block_of y = cc in
+    let others : row_blocks_of a ≡ row_blocks_of b = cc in
+    let rows : rows_of x.entries ≡ rows_of y.entries = ap (λ (r : RowBlock). r.rows) first in
+    let entries = rows_of-one x.entries y.entries (All-front HasSeq x.entries (joined a) seqs_a) (All-front HasSeq y.entries (joined b) seqs_b) rows in
+    let head : x ≡ y = block-made x.separator y.separator x.entries y.entries (ap (λ (r : RowBlock). r.separator) first) entries in
+    let tail = row_blocks-one a b (All-back HasSeq x.entries (joined a) seqs_a) (All-back HasSeq y.entries (joined b) seqs_b) others in
+    ap (λ (e : IndexedBlock). e ∷ a) head ∙ ap (λ (l : List IndexedBlock). y ∷ l) tail

@@ -16,11 +16,11 @@ use Rattle.sst_cli.specs.BlockBased.{HasSeq}
 use Rattle.sst_cli.specs.Way.{IndexedBlock, Separate, IsUpToSeparator, IsAfterSeparator, is_separator_before, seek_tag, seek_for_prev_tag, joined, passed, seek_passed, seek_for_prev_passed, last_passed, way_seek, way_get, way_seek_for_prev, way_answer, way_replies_from}
 use Rattle.sst_cli.proofs.SeparatorOrder.{seek-ahead, seek-behind, prev-ahead, prev-behind}
 
-All-front : (P : Entry → Type 0) (xs ys : List Entry) → All P (xs ++ ys) → All P xs
+pub All-front : (P : Entry → Type 0) (xs ys : List Entry) → All P (xs ++ ys) → All P xs
 All-front P [] ys all = All-nil P
 All-front P (x ∷ xs) ys all = All-cons P x xs (All-head P x (xs ++ ys) all) (All-front P xs ys (All-tail P x (xs ++ ys) all))
 
-All-back : (P : Entry → Type 0) (xs ys : List Entry) → All P (xs ++ ys) → All P ys
+pub All-back : (P : Entry → Type 0) (xs ys : List Entry) → All P (xs ++ ys) → All P ys
 All-back P [] ys all = all
 All-back P (x ∷ xs) ys all = All-back P xs ys (All-tail P x (xs ++ ys) all)
 

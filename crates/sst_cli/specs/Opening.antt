@@ -90,11 +90,15 @@ abbrev pub rows_joined : List RowBlock → List Row
 rows_joined [] = []
 rows_joined (block ∷ rest) = block.rows ++ rows_joined rest
 
+-- the one data block with this separator and these rows
+abbrev pub as_block : List ℕ → List Row → Result (List RowBlock) BbtFault
+as_block separator rows = Ok (record { separator = separator; rows = rows } ∷ [])
+
 -- the data blocks that the index rows lead to, each with its separator
 abbrev pub blocks_of_runs : List ℕ → ℕ → List Row → Result (List RowBlock) BbtFault
 blocks_of_runs file end [] = Ok []
 blocks_of_runs file end (row ∷ []) =
-    then_open (led_to file end (handle_at row.value)) (λ rows. Ok (record { separator = row.key; rows = rows } ∷ []))
+    then_open (led_to file end (handle_at row.value)) (as_block row.key)
 blocks_of_runs file end (row ∷ next ∷ rest) = Err (bbt.Meta meta.NotYet)
 
 -- the rows of the data blocks of the index at a handle, or the first fault

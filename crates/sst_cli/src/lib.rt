@@ -112,6 +112,7 @@ mod program;
 mod reading;
 mod refusal;
 mod reply_line;
+mod separators;
 mod table_parts;
 mod way_laws;
 mod words;
