@@ -28,6 +28,11 @@ pub first_value : (first : Row) (rest : List Row) (value : List ℕ) → (row : 
     → value ≡ first.value
 first_value first rest value (row, at, is) = let same : Some first ≡ Some row = at in is ∙ cc
 
+-- and so is the key
+pub first_key : (first : Row) (rest : List Row) (key : List ℕ) → (row : Row) × (slice_get (first ∷ rest) 0 ≡ Some row) × (key ≡ row.key)
+    → key ≡ first.key
+first_key first rest key (row, at, is) = let same : Some first ≡ Some row = at in is ∙ cc
+
 -- a walk over a data block of so many rows stands at the n-th, and the rows before it were copied
 pub record Copied (block : List ℕ) (count : ℕ) (walk : BlockIter) (n : ℕ) (entries : List Entry) : Type 0 where
   pub walks : (rows : List Row) → Reads Entries block rows → length rows ≡ count → Walks walk rows (place_of rows n)

@@ -4,24 +4,23 @@ use Rattle.std.proofs.lemmas.List.Elements.{All-nil}
 use Rattle.std.specs.Io.KnownBytes.{append_known}
 use Rattle.sst_key.specs.declared.entries.Entry.{Entry}
 use Rattle.sst_key.specs.declared.calls.Call.{Call}
-use Rattle.sst_block.specs.Block.{Row}
-use Rattle.sst_cli.specs.BlockBased.{HasSeq, rows_of}
+use Rattle.sst_cli.specs.BlockBased.{HasSeq, BlockBased}
 use Rattle.hex.specs.Hex.{IsBytes}
 use Rattle.sst_cli.specs.BlockBased.{Opens}
 use Rattle.sst_cli.specs.Folder.{Files}
 use Rattle.sst_cli.specs.Words.{out_name, calls_name}
-use Rattle.sst_cli.proofs.Opened.{open_read-opens}
-use Rattle.sst_cli.proofs.EntriesOfRows.{rows_of-one}
+use Rattle.sst_cli.proofs.BlocksOpened.{blocks_read-opens, blocks_read-found, open_read-fault_of}
+use Rattle.sst_cli.proofs.Separated.{opens-seqs, row_blocks-one, stands-text}
+use Rattle.sst_cli.specs.TableBlocks.{blocks_in, row_blocks_of}
+use Rattle.sst_cli.specs.Way.{IndexedBlock}
 use Rattle.sst_cli.proofs.FaultsShown.{open_read-fault}
 use Rattle.sst_cli.proofs.FileEnds.{IsBytes-drop}
-use Rattle.sst_cli.specs.CallsRun.{IsFileText, IsAnswered, Answered, IsDamaged, IsAnswersText, IsInputText, IsCallsText, file_status}
+use Rattle.sst_cli.specs.CallsRun.{IsFileText, IsAnswered, Answered, AnsweredByWay, IsDamaged, IsAnswersText, IsInputText, IsCallsText, file_status}
 use Rattle.sst_cli.specs.FaultText.{fault_text}
-use Rattle.sst_cli.specs.Opening.{open_read}
+use Rattle.sst_cli.specs.Opening.{RowBlock, blocks_read}
 use Rattle.sst_cli.specs.Printed.{IsPrinted}
 use Rattle.sst_cli.specs.Reading.{read_calls}
-use Rattle.sst_cli.specs.Replies.{answers_text}
-use Rattle.sst_cli.proofs.OpensRead.{open_read-found}
-use Rattle.sst_cli.proofs.OneList.{opens-ordered}
+use Rattle.sst_cli.specs.Replies.{way_text}
 use Rattle.sst_cli.specs.Refusals.{refusal_text}
 use Rattle.sst_cli.specs.Run.{IsFault}
 use Rattle.sst_cli.specs.declared.bbt_fault.BbtFault.{BbtFault}
@@ -29,29 +28,30 @@ use Rattle.sst_cli.specs.declared.refusal.Refusal.{Refusal}
 use Rattle.sst_cli.specs.declared.program.Status.{Status}
 
 -- the text of a file that reads so, where it is told
-pub file_text_is : (file : Option (List ℕ)) (read : Result (List Row) BbtFault) (calls : List Call) (text : List ℕ)
-    → ((bytes : List ℕ) → file ≡ Some bytes → open_read bytes ≡ read) → IsFileText read calls text → IsAnswersText file calls text
+pub file_text_is : (file : Option (List ℕ)) (read : Result (List RowBlock) BbtFault) (calls : List Call) (text : List ℕ)
+    → ((bytes : List ℕ) → file ≡ Some bytes → blocks_read bytes ≡ read) → IsFileText read calls text → IsAnswersText file calls text
 file_text_is None read calls text reads is = (read, is)
-file_text_is (Some bytes) read calls text reads is = subst (λ (r : Result (List Row) BbtFault). IsFileText r calls text) (sym (reads bytes refl)) is
+file_text_is (Some bytes) read calls text reads is = subst (λ (r : Result (List RowBlock) BbtFault). IsFileText r calls text) (sym (reads bytes refl)) is
 
 -- a file that reads so was answered
-pub answered : (result : Status) (found read : Result (List Row) BbtFault) (calls : List Call) (text : List ℕ) (before now : Option (List ℕ)) (faults counted : ℕ)
+pub answered : (result : Status) (found read : Result (List RowBlock) BbtFault) (calls : List Call) (text : List ℕ) (before now : Option (List ℕ)) (faults counted : ℕ)
     → IsPrinted result (file_status found) text before now faults counted → IsFileText found calls text → found ≡ read
     → IsFault result ⊎ IsAnswered result read calls before now
 answered result found read calls text before now faults counted (inl whole) is same =
-    inr (subst (λ (r : Result (List Row) BbtFault). IsAnswered result r calls before now) same (record { ends = whole.ends; text = text; is_text = is; printed = whole.printed }))
+    inr (subst (λ (r : Result (List RowBlock) BbtFault). IsAnswered result r calls before now) same (record { ends = whole.ends; text = text; is_text = is; printed = whole.printed }))
 answered result found read calls text before now faults counted (inr short) is same = inl short.ends
 
 -- each file calls for some text
-some_read_text : (file : List ℕ) (read : Result (List Row) BbtFault) (calls : List Call) → open_read file ≡ read → (text : List ℕ) × IsFileText read calls text
-some_read_text file (Ok rows) calls reads =
-    let found = open_read-found file rows reads in
-    (answers_text found.0 calls, (found.0, (opens-ordered file found.0 found.2).1, found.1, refl))
+some_read_text : (file : List ℕ) (read : Result (List RowBlock) BbtFault) (calls : List Call) → blocks_read file ≡ read → (text : List ℕ) × IsFileText read calls text
+some_read_text file (Ok read) calls reads =
+    let found = blocks_read-found file read reads in
+    let blocks = blocks_in file found.0 found.1 in
+    (way_text blocks calls, (blocks, opens-seqs file found.0 found.1, found.2, refl))
 some_read_text file (Err fault) calls reads = (fault_text fault, refl)
 
 pub some_answers_text : (file : Option (List ℕ)) (calls : List Call) → (text : List ℕ) × IsAnswersText file calls text
-some_answers_text None calls = (answers_text [] calls, (Ok [], ([], All-nil HasSeq, refl, refl)))
-some_answers_text (Some file) calls = some_read_text file (open_read file) calls refl
+some_answers_text None calls = (way_text [] calls, (Ok [], ([], All-nil HasSeq, refl, refl)))
+some_answers_text (Some file) calls = some_read_text file (blocks_read file) calls refl
 
 -- and each input with it
 some_input_text : (file : Option (List ℕ)) (reading : Result (List Call) Refusal) → (text : List ℕ) × IsInputText file reading text
@@ -68,45 +68,55 @@ pub input_text_is : (file input : Option (List ℕ)) (reading : Result (List Cal
 input_text_is file None reading text reads is = (reading, is)
 input_text_is file (Some bytes) reading text reads is = subst (λ (r : Result (List Call) Refusal). IsInputText file r text) (sym (reads bytes refl)) is
 
--- a file that stands for a list was answered as the list answers
-pub answered_list : (result : Status) (file : List ℕ) (entries : List Entry) (calls : List Call) (old new : Option Files) (left before now : Option (List ℕ))
-    → Opens file entries → IsFault result ⊎ (IsAnswered result (open_read file) calls before now × (left ≡ Some [])) → new ≡ old
-    → IsFault result ⊎ Answered result entries calls old new left before now
-answered_list result file entries calls old new left before now opens (inl fault) kept = inl fault
-answered_list result file entries calls old new left before now opens (inr found) kept =
-    let reads = open_read-opens file entries opens in
-    let is : IsFileText (Ok (rows_of entries)) calls found.0.text = subst (λ (r : Result (List Row) BbtFault). IsFileText r calls found.0.text) reads found.0.is_text in
-    let same = rows_of-one entries is.0 (opens-ordered file entries opens).1 is.1 is.2 in
+-- a file that opens was answered by the way of its blocks
+pub answered_way : (result : Status) (file : List ℕ) (entries : List Entry) (opens : Opens file entries) (calls : List Call) (old new : Option Files) (left before now : Option (List ℕ))
+    → IsFault result ⊎ (IsAnswered result (blocks_read file) calls before now × (left ≡ Some [])) → new ≡ old
+    → IsFault result ⊎ AnsweredByWay result (blocks_in file entries opens) calls old new left before now
+answered_way result file entries opens calls old new left before now (inl fault) kept = inl fault
+answered_way result file entries opens calls old new left before now (inr found) kept =
+    let reads = blocks_read-opens file entries opens in
+    let is : IsFileText (Ok (row_blocks_of (blocks_in file entries opens))) calls found.0.text = subst (λ (r : Result (List RowBlock) BbtFault). IsFileText r calls found.0.text) reads found.0.is_text in
+    let same = row_blocks-one (blocks_in file entries opens) is.0 (opens-seqs file entries opens) is.1 is.2 in
     inr (record {
       done = found.0.ends ∙ ap file_status reads;
       kept = kept;
       read = found.1;
-      printed = found.0.printed ∙ ap (λ (t : List ℕ). append_known before t) (is.3 ∙ ap (λ (es : List Entry). answers_text es calls) (sym same));
+      printed = found.0.printed ∙ ap (λ (t : List ℕ). append_known before t) (is.3 ∙ ap (λ (bs : List IndexedBlock). way_text bs calls) (sym same));
     })
 
-damage_of : (result : Status) (file : List ℕ) (read : Result (List Row) BbtFault) (calls : List Call) (before now : Option (List ℕ))
-    → IsBytes file → ((entries : List Entry) → Opens file entries → ⊥) → open_read file ≡ read
+-- and one that stands for a list, as the list answers
+pub answered_list : (result : Status) (file : List ℕ) (entries : List Entry) (stands : BlockBased file entries) (calls : List Call) (old new : Option Files) (left before now : Option (List ℕ))
+    → IsFault result ⊎ (IsAnswered result (blocks_read file) calls before now × (left ≡ Some [])) → new ≡ old
+    → IsFault result ⊎ Answered result entries calls old new left before now
+answered_list result file entries stands calls old new left before now found kept =
+    elim (answered_way result file entries stands.opens calls old new left before now found kept) [
+      | inl fault ↦ inl fault
+      | inr way ↦ inr (record { done = way.done; kept = way.kept; read = way.read; printed = way.printed ∙ ap (append_known before) (stands-text file entries stands calls) })
+    ]
+
+damage_of : (result : Status) (file : List ℕ) (read : Result (List RowBlock) BbtFault) (calls : List Call) (before now : Option (List ℕ))
+    → IsBytes file → ((entries : List Entry) → Opens file entries → ⊥) → blocks_read file ≡ read
     → IsAnswered result read calls before now → IsDamaged result file before now
-damage_of result file (Ok rows) calls before now bytes closed reads found =
-    let some = open_read-found file rows reads in
-    absurd (closed some.0 some.2)
+damage_of result file (Ok blocks) calls before now bytes closed reads found =
+    let some = blocks_read-found file blocks reads in
+    absurd (closed some.0 some.1)
 damage_of result file (Err fault) calls before now bytes closed reads found =
     record {
       ends = found.ends;
       fault = fault;
-      first = reads;
-      shown = open_read-fault file fault (IsBytes-drop (length file - 53) file bytes) reads;
+      first = open_read-fault_of file fault reads;
+      shown = open_read-fault file fault (IsBytes-drop (length file - 53) file bytes) (open_read-fault_of file fault reads);
       printed = found.printed ∙ ap (λ (t : List ℕ). append_known before t) found.is_text;
     }
 
 -- a file that doesn't open was refused with a fault that it shows
 pub answered_damage : (result : Status) (file : List ℕ) (calls : List Call) (left before now : Option (List ℕ))
     → IsBytes file → ((entries : List Entry) → Opens file entries → ⊥)
-    → IsFault result ⊎ (IsAnswered result (open_read file) calls before now × (left ≡ Some []))
+    → IsFault result ⊎ (IsAnswered result (blocks_read file) calls before now × (left ≡ Some []))
     → IsFault result ⊎ IsDamaged result file before now
 answered_damage result file calls left before now bytes closed (inl fault) = inl fault
 answered_damage result file calls left before now bytes closed (inr found) =
-    inr (damage_of result file (open_read file) calls before now bytes closed refl found.0)
+    inr (damage_of result file (blocks_read file) calls before now bytes closed refl found.0)
 
 -- words that have an OUT have no FILE
 one_name : (words : List (List ℕ)) (some other : List ℕ) → out_name words ≡ Some some → calls_name words ≡ Some other → ⊥

@@ -18,7 +18,7 @@ kind-numbered Value = refl
 kind-numbered Merge = refl
 kind-numbered SingleDeletion = refl
 
-kind-small : (k : Kind) → kind_number k < 256
+pub kind-small : (k : Kind) → kind_number k < 256
 kind-small Deletion = omega arith
 kind-small Value = omega arith
 kind-small Merge = omega arith

@@ -27,7 +27,7 @@ with_rows-some : (h : Handle) (entries : List Entry) → 0 < length entries → 
 with_rows-some h [] some = absurd (omega arith)
 with_rows-some h (e ∷ rest) some = refl
 
-led_to-entries : (file : List ℕ) (end : ℕ) (row : Row) (entries : List Entry) → end < 2 ^ 40 → LeadsTo file end row entries
+pub led_to-entries : (file : List ℕ) (end : ℕ) (row : Row) (entries : List Entry) → end < 2 ^ 40 → LeadsTo file end row entries
     → led_to file end (handle_at row.value) ≡ Ok (rows_of entries)
 led_to-entries file end row entries short leads =
     let fits = handle-fits file end leads.handle leads.block short leads.framed in
@@ -42,7 +42,7 @@ runs_read-runs file end [] entries short runs = ap (λ (l : List Entry). Ok (row
 runs_read-runs file end (row ∷ []) entries short runs = led_to-entries file end row entries short runs
 runs_read-runs file end (row ∷ next ∷ rest) entries short runs = absurd runs
 
-meta_read-leads : (file : List ℕ) (metaindex index : Handle) → Leads file metaindex index → meta_read file ≡ Ok index
+pub meta_read-leads : (file : List ℕ) (metaindex index : Handle) → Leads file metaindex index → meta_read file ≡ Ok index
 unfolding meta_read
 meta_read-leads file metaindex index l =
     let footer : Footer = record { metaindex = metaindex; index = index } in

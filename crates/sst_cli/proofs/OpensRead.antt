@@ -77,7 +77,7 @@ pub record Found (file : List ℕ) (end : ℕ) (index_rows rows : List Row) : Ty
   pub are : rows ≡ rows_of entries
   pub runs : Runs file end index_rows entries
 
-led_to-found : (file : List ℕ) (end : ℕ) (row : Row) (rows : List Row) → IsHandle row.value → led_to file end (handle_at row.value) ≡ Ok rows
+pub led_to-found : (file : List ℕ) (end : ℕ) (row : Row) (rows : List Row) → IsHandle row.value → led_to file end (handle_at row.value) ≡ Ok rows
     → Found file end (row ∷ []) rows
 led_to-found file end row rows is e =
     let handle = handle-of_row row is in
@@ -97,7 +97,7 @@ runs_read-found file end (row ∷ []) rows forms e = led_to-found file end row r
 runs_read-found file end (row ∷ next ∷ rest) rows forms e = cc
 
 -- the whole file, from the parts that were found
-opens-from : (file : List ℕ) (metaindex index : Handle) (index_rows rows : List Row) → Leads file metaindex index
+abbrev pub opens-from : (file : List ℕ) (metaindex index : Handle) (index_rows rows : List Row) → Leads file metaindex index
     → RowsAt (Index false false) file (footer_start file) index index_rows → (f : Found file (footer_start file) index_rows rows) → Opens file f.entries
 opens-from file metaindex index index_rows rows l at f = record {
   end = footer_start file;

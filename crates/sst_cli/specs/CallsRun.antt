@@ -3,35 +3,36 @@ use Rattle.std.specs.Prelude.{◌≡◌, ℕ, List, [], Option, Some, None, Resu
 use Rattle.std.specs.Io.KnownBytes.{append_known}
 use Rattle.sst_key.specs.declared.entries.Entry.{Entry}
 use Rattle.sst_key.specs.declared.calls.Call.{Call}
-use Rattle.sst_block.specs.Block.{Row}
-use Rattle.sst_cli.specs.BlockBased.{HasSeq, rows_of}
+use Rattle.sst_cli.specs.BlockBased.{HasSeq}
 use Rattle.sst_cli.specs.Folder.{Files, file_of, misses}
 use Rattle.sst_cli.specs.FaultText.{fault_text}
-use Rattle.sst_cli.specs.Opening.{open_read}
+use Rattle.sst_cli.specs.Opening.{RowBlock, open_read, blocks_read}
 use Rattle.sst_cli.specs.Reading.{read_calls}
 use Rattle.sst_cli.specs.Refusals.{refusal_text}
-use Rattle.sst_cli.specs.Replies.{answers_text}
+use Rattle.sst_cli.specs.Replies.{answers_text, way_text}
 use Rattle.sst_cli.specs.Run.{IsWriteText, usage_text}
 use Rattle.sst_cli.specs.Shows.{Shows}
+use Rattle.sst_cli.specs.TableBlocks.{row_blocks_of}
+use Rattle.sst_cli.specs.Way.{IndexedBlock, joined}
 use Rattle.sst_cli.specs.Words.{calls_name}
 use Rattle.sst_cli.specs.declared.bbt_fault.BbtFault.{BbtFault}
 use Rattle.sst_cli.specs.declared.refusal.Refusal.{Refusal}
 use Rattle.sst_cli.specs.declared.program.Status.{Status}
 use Rattle.sst_cli.specs.declared.program.Status.TheVariants.{Done, File}
 
--- the text that a file calls for which reads so: the answers of the list whose rows it has, or the line of its fault
-abbrev pub IsFileText : Result (List Row) BbtFault → List Call → List ℕ → Type 0
-IsFileText (Ok rows) calls text =
-    (entries : List Entry) × All HasSeq entries × (rows ≡ rows_of entries) × (text ≡ answers_text entries calls)
+-- the text that a file calls for which reads so: the answers by the way of its blocks, or the line of its fault
+abbrev pub IsFileText : Result (List RowBlock) BbtFault → List Call → List ℕ → Type 0
+IsFileText (Ok read) calls text =
+    (blocks : List IndexedBlock) × All HasSeq (joined blocks) × (read ≡ row_blocks_of blocks) × (text ≡ way_text blocks calls)
 IsFileText (Err fault) calls text = text ≡ fault_text fault
 
 -- the status that goes with it
-abbrev pub file_status : Result (List Row) BbtFault → Status
-file_status (Ok rows) = Done
+abbrev pub file_status : Result (List RowBlock) BbtFault → Status
+file_status (Ok blocks) = Done
 file_status (Err fault) = File
 
 -- the status and the text are those that a file calls for which reads so
-pub record IsAnswered (result : Status) (read : Result (List Row) BbtFault) (calls : List Call) (before now : Option (List ℕ)) : Type 0 where
+pub record IsAnswered (result : Status) (read : Result (List RowBlock) BbtFault) (calls : List Call) (before now : Option (List ℕ)) : Type 0 where
   pub ends : result ≡ file_status read
   pub text : List ℕ
   pub is_text : IsFileText read calls text
@@ -45,6 +46,13 @@ pub record Answered (result : Status) (entries : List Entry) (calls : List Call)
   pub read : left ≡ Some []
   pub printed : now ≡ append_known before (answers_text entries calls)
 
+-- the same on a file with these blocks: the answers by their way are printed
+pub record AnsweredByWay (result : Status) (blocks : List IndexedBlock) (calls : List Call) (old new : Option Files) (left before now : Option (List ℕ)) : Type 0 where
+  pub done : result ≡ Done
+  pub kept : new ≡ old
+  pub read : left ≡ Some []
+  pub printed : now ≡ append_known before (way_text blocks calls)
+
 -- the first thing that is wrong with the file was printed, and the file shows it
 pub record IsDamaged (result : Status) (file : List ℕ) (before now : Option (List ℕ)) : Type 0 where
   pub ends : result ≡ File
@@ -55,8 +63,8 @@ pub record IsDamaged (result : Status) (file : List ℕ) (before now : Option (L
 
 -- the text may be that of these calls on a file, where it is told
 abbrev pub IsAnswersText : Option (List ℕ) → List Call → List ℕ → Type 0
-IsAnswersText None calls text = (read : Result (List Row) BbtFault) × IsFileText read calls text
-IsAnswersText (Some file) calls text = IsFileText (open_read file) calls text
+IsAnswersText None calls text = (read : Result (List RowBlock) BbtFault) × IsFileText read calls text
+IsAnswersText (Some file) calls text = IsFileText (blocks_read file) calls text
 
 -- the text of an input that reads so
 abbrev pub IsInputText : Option (List ℕ) → Result (List Call) Refusal → List ℕ → Type 0

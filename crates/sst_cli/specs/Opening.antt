@@ -2,7 +2,7 @@
 -- file's length; the footer; the metaindex; the index; the data block. Each block is framed before it is read.
 -- RocksDB: BlockBasedTable::Open in table/block_based/block_based_table_reader.cc. For now a metaindex with a row and an
 -- index with more than one are refused as not yet built.
-use Rattle.std.specs.Prelude.{ℕ, ◌-◌, ◌^◌, nat_lt, if◌then◌else◌, false, List, [], ◌∷◌, length, map, Option, None, Some, Result, Ok, Err}
+use Rattle.std.specs.Prelude.{ℕ, ◌-◌, ◌^◌, nat_lt, if◌then◌else◌, false, List, [], ◌∷◌, ◌++◌, length, map, Option, None, Some, Result, Ok, Err}
 use Rattle.sst_num.specs.Reading.{handle_at}
 use Rattle.sst_num.specs.declared.block_handle.Handle.{Handle}
 use Rattle.sst_block.specs.declared.row_form.RowForm.{RowForm}
@@ -80,11 +80,41 @@ runs_read file end [] = Ok []
 runs_read file end (row ∷ []) = led_to file end (handle_at row.value)
 runs_read file end (row ∷ next ∷ rest) = Err (bbt.Meta meta.NotYet)
 
+-- a data block as it is read: its separator, which is the key of its index row, and its rows
+pub record RowBlock : Type 0 where
+  pub separator : List ℕ
+  pub rows : List Row
+
+-- the rows of all blocks, in order
+abbrev pub rows_joined : List RowBlock → List Row
+rows_joined [] = []
+rows_joined (block ∷ rest) = block.rows ++ rows_joined rest
+
+-- the one data block with this separator and these rows
+abbrev pub as_block : List ℕ → List Row → Result (List RowBlock) BbtFault
+as_block separator rows = Ok (record { separator = separator; rows = rows } ∷ [])
+
+-- the data blocks that the index rows lead to, each with its separator
+abbrev pub blocks_of_runs : List ℕ → ℕ → List Row → Result (List RowBlock) BbtFault
+blocks_of_runs file end [] = Ok []
+blocks_of_runs file end (row ∷ []) =
+    then_open (led_to file end (handle_at row.value)) (as_block row.key)
+blocks_of_runs file end (row ∷ next ∷ rest) = Err (bbt.Meta meta.NotYet)
+
 -- the rows of the data blocks of the index at a handle, or the first fault
 abbrev pub index_read : List ℕ → ℕ → Handle → Result (List Row) BbtFault
 index_read file end h =
     then_open (block_at bbt.Frame (bbt.Block h) (Index false false) file end h) (runs_read file end)
 
+-- the data blocks of the index at a handle, or the first fault
+abbrev pub index_blocks_read : List ℕ → ℕ → Handle → Result (List RowBlock) BbtFault
+index_blocks_read file end h =
+    then_open (block_at bbt.Frame (bbt.Block h) (Index false false) file end h) (blocks_of_runs file end)
+
 -- the rows of the file, or its first fault
 unfoldable pub open_read : List ℕ → Result (List Row) BbtFault
 open_read file = then_open (as_fault bbt.Meta (meta_read file)) (index_read file (footer_start file))
+
+-- the data blocks of the file, each with its separator, or its first fault
+unfoldable pub blocks_read : List ℕ → Result (List RowBlock) BbtFault
+blocks_read file = then_open (as_fault bbt.Meta (meta_read file)) (index_blocks_read file (footer_start file))

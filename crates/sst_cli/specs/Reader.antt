@@ -6,14 +6,15 @@ use Rattle.sst_num.specs.declared.block_handle.Handle.{Handle}
 use Rattle.sst_key.specs.Entry.{IsOrdered}
 use Rattle.sst_key.specs.declared.entries.Entry.{Entry}
 use Rattle.sst_block.specs.declared.row_form.RowForm.TheVariants.{Index}
-use Rattle.sst_cli.specs.BlockBased.{HasSeq, rows_of}
+use Rattle.sst_cli.specs.BlockBased.{HasSeq}
 use Rattle.sst_num.specs.declared.stops.Stop.{Stop}
 use Rattle.sst_num.specs.declared.stops.Stop.TheVariants.{Damage, Device, Memory}
 use Rattle.sst_block.specs.declared.row_form.RowForm.{RowForm}
 use Rattle.sst_block.specs.declared.fault.BlockFault.{BlockFault}
 use Rattle.sst_block.specs.Block.{Row}
 use Rattle.sst_block.specs.Reading.{block_read}
-use Rattle.sst_cli.specs.Opening.{then_open, as_fault, rows_in, meta_read, footer_start, block_at}
+use Rattle.sst_cli.specs.TableBlocks.{Table, HasSeparator, blocks_of, row_blocks_of}
+use Rattle.sst_cli.specs.Opening.{RowBlock, then_open, as_fault, rows_in, meta_read, footer_start, block_at}
 use Rattle.sst_cli.specs.declared.device.folder.DevStop.{DevStop}
 use Rattle.sst_cli.specs.declared.device.folder.DevStop.TheVariants as device
 use Rattle.sst_cli.specs.declared.meta_fault.MetaFault.{MetaFault}
@@ -52,25 +53,31 @@ Loads (Err (Damage fault)) file = meta_read file ≡ Err fault
 Loads (Err Device) file = Unit {0}
 Loads (Err Memory) file = Unit {0}
 
--- where the data block stands to which a value of the index leads; the value of each row of an index block is a handle
-abbrev pub place_led : Option (Handle × ℕ) → Result (Option Handle) BbtFault
-place_led None = Err (bbt.Meta meta.NotYet)
-place_led (Some read) = Ok (Some read.0)
+-- where the data block stands to which a value of the index leads, and its separator; the value of each row of an index
+-- block is a handle
+abbrev pub place_led : List ℕ → Option (Handle × ℕ) → Result (Option (Handle × List ℕ)) BbtFault
+place_led separator None = Err (bbt.Meta meta.NotYet)
+place_led separator (Some read) = Ok (Some (read.0, separator))
 
--- where the data block stands to which the index rows lead, if there is one
-abbrev pub place_of : List Row → Result (Option Handle) BbtFault
+-- where the data block stands to which the index rows lead, and its separator, if there is one
+abbrev pub place_of : List Row → Result (Option (Handle × List ℕ)) BbtFault
 place_of [] = Ok None
-place_of (row ∷ []) = place_led (handle_at row.value)
+place_of (row ∷ []) = place_led row.key (handle_at row.value)
 place_of (row ∷ next ∷ rest) = Err (bbt.Meta meta.NotYet)
 
 -- the same of the index block at a handle
-abbrev pub place_read : List ℕ → ℕ → Handle → Result (Option Handle) BbtFault
+abbrev pub place_read : List ℕ → ℕ → Handle → Result (Option (Handle × List ℕ)) BbtFault
 place_read file end h =
     then_open (block_at bbt.Frame (bbt.Block h) (Index false false) file end h) place_of
 
--- an answer has the entries whose rows were read, or is the first fault
-abbrev pub Opened : Result (List Entry) (Stop BbtFault) → Result (List Row) BbtFault → Type 0
-Opened (Ok entries) read = read ≡ Ok (rows_of entries)
+-- the separator is a stored key, if there is one
+abbrev pub IsSeparated : Option (Handle × List ℕ) → Type 0
+IsSeparated None = Unit {0}
+IsSeparated (Some place) = 8 ≤ length place.1
+
+-- an answer has the blocks that were read, or is the first fault
+abbrev pub Opened : Result Table (Stop BbtFault) → Result (List RowBlock) BbtFault → Type 0
+Opened (Ok table) read = read ≡ Ok (row_blocks_of (blocks_of table))
 Opened (Err (Damage fault)) read = read ≡ Err fault
 Opened (Err Device) read = Unit {0}
 Opened (Err Memory) read = Unit {0}
@@ -81,3 +88,8 @@ pub record AreEntries (entries : List Entry) : Type 0 where
   pub ordered : IsOrdered entries
   pub seqs : All HasSeq entries
   pub users : All (λ (e : Entry). length e.user ≤ 65536) entries
+
+-- what a reader keeps of a table
+pub record IsTable (table : Table) : Type 0 where
+  pub are : AreEntries table.entries
+  pub separator : HasSeparator table

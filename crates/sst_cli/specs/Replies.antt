@@ -8,6 +8,7 @@ use Rattle.sst_key.specs.declared.calls.Format.TheVariants.{Block}
 use Rattle.sst_key.specs.ListMachine.{replies_from}
 use Rattle.sst_cli.specs.ReplyText.{reply_line}
 use Rattle.sst_cli.specs.Cursors.{entry_shown}
+use Rattle.sst_cli.specs.Way.{IndexedBlock, joined, way_replies_from}
 
 -- the line of what a call answers, and its line end
 abbrev pub answer_line : List Entry → Call → Answer → List ℕ
@@ -27,9 +28,17 @@ answers_from entries position calls = lines_of entries calls (replies_from Block
 abbrev pub answers_text : List Entry → List Call → List ℕ
 answers_text entries calls = answers_from entries None calls
 
+-- the text of the answers by the way of the blocks, from a position on
+unfoldable pub way_from : List IndexedBlock → Option ℕ → List Call → List ℕ
+way_from blocks position calls = lines_of (joined blocks) calls (way_replies_from blocks position calls)
+
+-- the text of the answers of a block-based table with these blocks
+abbrev pub way_text : List IndexedBlock → List Call → List ℕ
+way_text blocks calls = way_from blocks None calls
+
 -- Part of a text was printed: what was put so far, what waits in `text` and the answers to the calls from here on make
 -- up the whole.
-pub record Printing (entries : List Entry) (calls : List Call) (before now : Option (List ℕ)) (text : List ℕ) (position : Option ℕ) (rest : List Call) : Type 0 where
+pub record Printing (blocks : List IndexedBlock) (calls : List Call) (before now : Option (List ℕ)) (text : List ℕ) (position : Option ℕ) (rest : List Call) : Type 0 where
   pub put : List ℕ
   pub printed : now ≡ append_known before put
-  pub whole : answers_text entries calls ≡ put ++ (text ++ answers_from entries position rest)
+  pub whole : way_text blocks calls ≡ put ++ (text ++ way_from blocks position rest)

@@ -1,11 +1,12 @@
 //! The answers to a list of calls.
 ghost use Rattle.std.specs.Prelude.{◌≡◌, ℕ, ◌≤◌, List, [], ◌++◌, take, Option, Some, option_and_then, slice_get, Err, OnOk, OnErr};
 ghost use Rattle.std.specs.Io.KnownBytes.{append_known};
-ghost use Rattle.sst_key.specs.ListMachine.{answer_of, shows, get_of};
-ghost use Rattle.sst_key.specs.declared.calls.Format.TheVariants.{Block};
+ghost use Rattle.sst_key.specs.ListMachine.{shows};
 ghost use Rattle.sst_cli.specs.Faults.{Rose};
-ghost use Rattle.sst_cli.specs.Replies.{answer_line, answers_text};
+ghost use Rattle.sst_cli.specs.Replies.{answer_line, way_text};
 ghost use Rattle.sst_cli.specs.Cursors.{Belongs, Comes, entry_shown, lent};
+ghost use Rattle.sst_cli.specs.TableBlocks.{blocks_of};
+ghost use Rattle.sst_cli.specs.Way.{joined, way_answer, way_get};
 
 use crate::bbt_reader::{BbtReader, Cursor};
 use crate::device::folder::DevStop;
@@ -20,8 +21,9 @@ const PIECE: usize = 65_536;
 
 /// Answers a Get with a cursor of its own.
 fn look_up<'r>(reader: &'r BbtReader, target: &Target) -> (Reply, Option<EntryView<'r>>)
-    ensures exact { (position : Option ℕ) → Comes result.0 position (shows position (get_of reader.now target.now.user target.now.seq)) }
-    ensures shown { (position : Option ℕ) → lent result.1 ≡ entry_shown reader.now (shows position (get_of reader.now target.now.user target.now.seq)) }
+    ensures exact { (position : Option ℕ) → Comes result.0 position (shows position (way_get (blocks_of reader.now) target.now.user target.now.seq)) }
+    ensures shown { (position : Option ℕ) → lent result.1 ≡ entry_shown reader.now.entries
+        (shows position (way_get (blocks_of reader.now) target.now.user target.now.seq)) }
 {
     let mut found = reader.cursor();
     let reply = if reader.get(&mut found, target.user.as_slice(), target.seq) {
@@ -34,9 +36,9 @@ fn look_up<'r>(reader: &'r BbtReader, target: &Target) -> (Reply, Option<EntryVi
 
 /// A reply, and the entry on which the cursor stands.
 fn at<'r>(reader: &'r BbtReader, reply: Reply, position: &Cursor) -> (Reply, Option<EntryView<'r>>)
-    requires { Belongs reader.now position.now }
+    requires { Belongs reader.now.entries position.now }
     ensures reply { result.0 ≡ reply }
-    ensures shown { lent result.1 ≡ option_and_then (λ i. slice_get reader.now i) position.now }
+    ensures shown { lent result.1 ≡ option_and_then (λ i. slice_get reader.now.entries i) position.now }
 {
     (reply, reader.entry(position))
 }
@@ -47,10 +49,11 @@ fn answer<'r>(
     position: &mut Cursor,
     call: &Call,
 ) -> (Reply, Option<EntryView<'r>>)
-    requires { Belongs reader.now position.old }
-    ensures exact { Comes result.0 position.new (answer_of Block 0 reader.now position.old call.now) }
-    ensures shown { lent result.1 ≡ entry_shown reader.now (answer_of Block 0 reader.now position.old call.now) }
-    ensures belongs { Belongs reader.now position.new }
+    requires { Belongs reader.now.entries position.old }
+    ensures exact { Comes result.0 position.new (way_answer (blocks_of reader.now) position.old call.now) }
+    ensures shown { lent result.1 ≡ entry_shown (joined (blocks_of reader.now))
+        (way_answer (blocks_of reader.now) position.old call.now) }
+    ensures belongs { Belongs reader.now.entries position.new }
 {
     match call {
         Call::Get(target) => look_up(reader, target),
@@ -76,11 +79,11 @@ fn put_answer(
     call: &Call,
     text: &mut Vec<u8>,
 ) -> Result<(), Memory>
-    requires { Belongs reader.now position.old }
+    requires { Belongs reader.now.entries position.old }
     ensures line { OnOk result (text.new.items ≡ text.old.items
-        ++ answer_line reader.now call.now (answer_of Block 0 reader.now position.old call.now)) }
-    ensures position { position.new ≡ (answer_of Block 0 reader.now position.old call.now).position }
-    ensures belongs { Belongs reader.now position.new }
+        ++ answer_line (joined (blocks_of reader.now)) call.now (way_answer (blocks_of reader.now) position.old call.now)) }
+    ensures position { position.new ≡ (way_answer (blocks_of reader.now) position.old call.now).position }
+    ensures belongs { Belongs reader.now.entries position.new }
 {
     let (reply, shown) = answer(reader, position, call);
     put_reply_line(text, reply, shown, call)
@@ -113,9 +116,9 @@ pub fn print_answers<O: Sink>(
     calls: &[Call],
     out: &mut O,
 ) -> Result<(), DevStop>
-    ensures all { OnOk result (O.written out.new ≡ append_known (O.written out.old) (answers_text reader.now calls.now)) }
+    ensures all { OnOk result (O.written out.new ≡ append_known (O.written out.old) (way_text (blocks_of reader.now) calls.now)) }
     ensures err { OnErr result ((n : ℕ)
-        × (O.written out.new ≡ append_known (O.written out.old) (take n (answers_text reader.now calls.now)))) }
+        × (O.written out.new ≡ append_known (O.written out.old) (take n (way_text (blocks_of reader.now) calls.now)))) }
     ensures failed { result ≡ Err DevStop.Failed → Rose (O.faults out.old) (O.faults out.new) }
     ensures counts { O.faults out.old ≤ O.faults out.new }
 {

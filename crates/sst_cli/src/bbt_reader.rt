@@ -1,16 +1,16 @@
 //! The reader of block-based files. A file is opened, or the first thing that is wrong with it is answered.
-ghost use Rattle.std.specs.Prelude.{◌≡◌, ◌≢◌, ℕ, ◌^◌, ◌≤◌, ◌⊎◌, false, List, length, Some, Err, IsTrue};
+ghost use Rattle.std.specs.Prelude.{◌≡◌, ◌≢◌, ℕ, ◌^◌, ◌≤◌, ◌⊎◌, false, List, length, Some, Err, IfOk, IsTrue};
 ghost use Rattle.sst_block.specs.declared.row_form.RowForm.TheVariants.{Entries, Index};
 ghost use Rattle.sst_cli.specs.Folder.{file_of, misses};
 ghost use Rattle.sst_cli.specs.Faults.{Rose};
-ghost use Rattle.sst_cli.specs.Opening.{then_open, with_rows, data_read, index_read, open_read};
-ghost use Rattle.sst_cli.specs.Reader.{Answers, Opened, stop_as, rows_checked, place_of, place_read};
+ghost use Rattle.sst_cli.specs.Opening.{as_block, then_open, with_rows, data_read, index_blocks_read, blocks_read};
+ghost use Rattle.sst_cli.specs.Reader.{Answers, IsSeparated, Opened, stop_as, rows_checked, place_of, place_read};
 ghost use Rattle.sst_cli.specs.declared.bbt_fault.BbtFault.TheVariants as bbt;
 
 mod calls;
 
 use crate::bbt_fault::BbtFault;
-use crate::block_rows::{count_rows, entries_of, first_handle};
+use crate::block_rows::{count_rows, entries_of, first_row};
 use crate::device::draw::draw_framed;
 use crate::device::folder::Folder;
 use crate::device::frame::FrameFault;
@@ -19,7 +19,7 @@ use crate::meta_fault::MetaFault;
 pub use calls::Cursor;
 use sst_block::RowForm;
 use sst_key::Entry;
-use sst_num::{Handle, Memory, Refused, Stop};
+use sst_num::{Bytes, Handle, Memory, Refused, Stop};
 use std::alloc::Global;
 use std::marker::Model;
 
@@ -28,25 +28,27 @@ mod tests;
 
 /// A block-based file that is open.
 ///
-/// Contracts see it as the list of its entries. They increase, their sequence numbers are below 2^56, and their user
-/// keys have at most 65,536 bytes. For now all entries are kept in memory.
+/// Contracts see it as the separator of its data block and the list of its entries; with no entry there is no block. The
+/// entries increase, their sequence numbers are below 2^56, and their user keys have at most 65,536 bytes. For now all
+/// entries are kept in memory.
 /// RocksDB: `BlockBasedTable` in table/block_based/block_based_table_reader.h.
 #[derive(Debug, Drop)]
 pub struct BbtReader {
+    /// The separator: a stored key of at least eight bytes, where there is a data block.
+    separator: Bytes,
     /// The entries, in order.
     entries: Vec<Entry>,
 }
 
 impl Model for BbtReader {
-    ghost use Rattle.std.specs.Prelude.{List};
-    ghost use Rattle.sst_key.specs.declared.entries.Entry.{Entry};
-    ghost use Rattle.sst_cli.specs.Reader.{AreEntries};
+    ghost use Rattle.sst_cli.specs.Reader.{IsTable};
+    ghost use Rattle.sst_cli.specs.TableBlocks.{Table};
 
-    ghost Value = { List Entry };
+    ghost Value = { Table };
 
-    ghost view = { λ r. r.entries.items };
+    ghost view = { λ r. record { separator = r.separator; entries = r.entries.items } };
 
-    ghost invariant = { λ r. AreEntries r.entries.items };
+    ghost invariant = { λ r. IsTable (record { separator = r.separator; entries = r.entries.items }) };
 }
 
 /// Opens the named file: reads its end, its index, and its data block.
@@ -54,13 +56,13 @@ impl Model for BbtReader {
 /// The first thing that is wrong is answered, in this order: the file's length; the footer; the metaindex; the index;
 /// the data block. For now `NotYet` answers a metaindex with a row and an index with more than one.
 /// RocksDB: `BlockBasedTable::Open` in table/block_based/block_based_table_reader.cc.
-#[tactic(auto, unfolding(crate::specs::Opening::open_read))]
+#[tactic(auto, unfolding(crate::specs::Opening::blocks_read))]
 pub fn open<F: Folder>(
     alloc: Global,
     files: &mut F,
     name: &str,
 ) -> Result<BbtReader, Stop<BbtFault>>
-    ensures told { (file : List ℕ) → file_of (F.held files.old) name.now ≡ Some file → Opened result (open_read file) }
+    ensures told { (file : List ℕ) → file_of (F.held files.old) name.now ≡ Some file → Opened result (blocks_read file) }
     ensures device { result ≡ Err Stop.Device → IsTrue (misses (F.held files.old) name.now 0)
         ⊎ Rose (F.faults files.old) (F.faults files.new) }
     ensures absent { IsTrue (misses (F.held files.old) name.now 0) → (result ≡ Err Stop.Device) ⊎ (result ≡ Err Stop.Memory) }
@@ -103,7 +105,7 @@ fn open_index<F: Folder>(
     loaded: Loaded,
 ) -> Result<BbtReader, Stop<BbtFault>>
     ensures told { (file : List ℕ) → file_of (F.held files.old) name.now ≡ Some file → loaded.end ≤ length file
-        → Opened result (index_read file loaded.end loaded.index) }
+        → Opened result (index_blocks_read file loaded.end loaded.index) }
     ensures device { result ≡ Err Stop.Device → IsTrue (misses (F.held files.old) name.now loaded.end)
         ⊎ Rose (F.faults files.old) (F.faults files.new) }
     ensures same_files { F.held files.new ≡ F.held files.old }
@@ -112,22 +114,26 @@ fn open_index<F: Folder>(
     match read_index(alloc, files, name, loaded.end, loaded.index) {
         Err(stop) => Err(stop),
         Ok(None) => Ok(BbtReader {
+            separator: Bytes::new(alloc),
             entries: Vec::new(alloc),
         }),
-        Ok(Some(handle)) => read_data(alloc, files, name, loaded.end, handle),
+        Ok(Some((handle, separator))) => {
+            read_data(alloc, files, name, loaded.end, handle, separator)
+        }
     }
 }
 
-/// The handle of the data block, if there is one, from the index block at a handle.
+/// The handle and the separator of the data block, if there is one, from the index block at a handle.
 fn read_index<F: Folder>(
     alloc: Global,
     files: &mut F,
     name: &str,
     end: u64,
     handle: Handle,
-) -> Result<Option<Handle>, Stop<BbtFault>>
+) -> Result<Option<(Handle, Bytes)>, Stop<BbtFault>>
     ensures told { (file : List ℕ) → file_of (F.held files.old) name.now ≡ Some file → end ≤ length file
         → Answers result (place_read file end handle) }
+    ensures long { IfOk result (λ place. IsSeparated place) }
     ensures device { result ≡ Err Stop.Device → IsTrue (misses (F.held files.old) name.now end)
         ⊎ Rose (F.faults files.old) (F.faults files.new) }
     ensures same_files { F.held files.new ≡ F.held files.old }
@@ -139,9 +145,15 @@ fn read_index<F: Folder>(
     }
 }
 
-/// The handle of the data block, if there is one, from the bytes of the index block, which stands at `handle`.
-fn data_place(alloc: Global, block: &[u8], handle: Handle) -> Result<Option<Handle>, Stop<BbtFault>>
+/// The handle and the separator of the data block, if there is one, from the bytes of the index block, which stands at
+/// `handle`.
+fn data_place(
+    alloc: Global,
+    block: &[u8],
+    handle: Handle,
+) -> Result<Option<(Handle, Bytes)>, Stop<BbtFault>>
     requires { length block.now ≤ 2 ^ 29 }
+    ensures long { IfOk result (λ place. IsSeparated place) }
     ensures told { Answers result (then_open (rows_checked (bbt.Block handle) (Index false false) block.now) place_of) }
     ensures device { result ≢ Err Stop.Device }
 {
@@ -153,7 +165,7 @@ fn data_place(alloc: Global, block: &[u8], handle: Handle) -> Result<Option<Hand
         Err(Refused::Cause(fault)) => Err(Stop::Damage(BbtFault::Block(handle, fault))),
         Err(Refused::Memory) => Err(Stop::Memory),
         Ok(0) => Ok(None),
-        Ok(1) => match first_handle(alloc, block) {
+        Ok(1) => match first_row(alloc, block) {
             Ok(Some(place)) => Ok(Some(place)),
             Ok(None) => Err(Stop::Damage(BbtFault::Meta(MetaFault::NotYet))),
             Err(Memory) => Err(Stop::Memory),
@@ -162,16 +174,18 @@ fn data_place(alloc: Global, block: &[u8], handle: Handle) -> Result<Option<Hand
     }
 }
 
-/// The entries of the data block at a handle.
+/// The reader of the data block at a handle, with its separator.
 fn read_data<F: Folder>(
     alloc: Global,
     files: &mut F,
     name: &str,
     end: u64,
     handle: Handle,
+    separator: Bytes,
 ) -> Result<BbtReader, Stop<BbtFault>>
+    requires { 8 ≤ length separator }
     ensures told { (file : List ℕ) → file_of (F.held files.old) name.now ≡ Some file → end ≤ length file
-        → Opened result (data_read file end handle) }
+        → Opened result (then_open (data_read file end handle) (as_block separator)) }
     ensures device { result ≡ Err Stop.Device → IsTrue (misses (F.held files.old) name.now end)
         ⊎ Rose (F.faults files.old) (F.faults files.new) }
     ensures same_files { F.held files.new ≡ F.held files.old }
@@ -179,14 +193,21 @@ fn read_data<F: Folder>(
 {
     match draw_framed(alloc, files, name, end, handle) {
         Err(stop) => Err(frame_stop(stop)),
-        Ok(block) => data_entries(alloc, block.as_slice(), handle),
+        Ok(block) => data_entries(alloc, block.as_slice(), handle, separator),
     }
 }
 
-/// The entries of the bytes of a data block, which stands at `handle`.
-fn data_entries(alloc: Global, block: &[u8], handle: Handle) -> Result<BbtReader, Stop<BbtFault>>
-    requires { length block.now ≤ 2 ^ 29 }
-    ensures told { Opened result (then_open (rows_checked (bbt.Block handle) Entries block.now) (with_rows handle)) }
+/// The reader of the bytes of a data block, which stands at `handle`, with its separator.
+fn data_entries(
+    alloc: Global,
+    block: &[u8],
+    handle: Handle,
+    separator: Bytes,
+) -> Result<BbtReader, Stop<BbtFault>>
+    requires short { length block.now ≤ 2 ^ 29 }
+    requires long { 8 ≤ length separator }
+    ensures told { Opened result
+        (then_open (then_open (rows_checked (bbt.Block handle) Entries block.now) (with_rows handle)) (as_block separator)) }
     ensures device { result ≢ Err Stop.Device }
 {
     match count_rows(alloc, block, RowForm::Entries) {
@@ -194,7 +215,7 @@ fn data_entries(alloc: Global, block: &[u8], handle: Handle) -> Result<BbtReader
         Err(Refused::Memory) => Err(Stop::Memory),
         Ok(0) => Err(Stop::Damage(BbtFault::EmptyBlock(handle))),
         Ok(count) => match entries_of(alloc, block, count) {
-            Ok(entries) => Ok(BbtReader { entries }),
+            Ok(entries) => Ok(BbtReader { separator, entries }),
             Err(Memory) => Err(Stop::Memory),
         },
     }

@@ -22,11 +22,11 @@ pub fn count_rows(alloc: Global, block: &[u8], form: RowForm) -> Result<u32, Ref
     check_block(alloc, block, form)
 }
 
-/// The handle that the first row of an index block has as its value. None where it isn't a handle.
-pub fn first_handle(alloc: Global, block: &[u8]) -> Result<Option<Handle>, Memory>
+/// The handle that the first row of an index block has as its value, and its key. None where it isn't a handle.
+pub fn first_row(alloc: Global, block: &[u8]) -> Result<Option<(Handle, Bytes)>, Memory>
     requires { (first : Row) × (rest : List Row) × Reads (Index false false) block.now (first ∷ rest) }
-    ensures { IfOk result (λ handle. (first : Row) (rest : List Row) → Reads (Index false false) block.now (first ∷ rest)
-        → handle ≡ option_map (λ read. read.0) (handle_at first.value)) }
+    ensures { IfOk result (λ place. (first : Row) (rest : List Row) → Reads (Index false false) block.now (first ∷ rest)
+        → place ≡ option_map (λ read. (read.0, first.key)) (handle_at first.value)) }
 {
     let room = KeyRoom::new(alloc)?;
     let form = RowForm::Index {
@@ -36,7 +36,10 @@ pub fn first_handle(alloc: Global, block: &[u8]) -> Result<Option<Handle>, Memor
     let mut rows = BlockIter::start(block, form, room);
     rows.first();
     match take_handle(rows.value()) {
-        Some((handle, _)) => Ok(Some(handle)),
+        Some((handle, _)) => {
+            let separator = Bytes::from_slice(alloc, rows.key())?;
+            Ok(Some((handle, separator)))
+        }
         None => Ok(None),
     }
 }

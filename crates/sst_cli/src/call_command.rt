@@ -6,12 +6,13 @@ ghost use Rattle.sst_cli.specs.CallsRun.{IsAnswered, IsAnswersText, IsCallsText,
 ghost use Rattle.sst_cli.specs.FaultText.{fault_text};
 ghost use Rattle.sst_cli.specs.Faults.{Rose};
 ghost use Rattle.sst_cli.specs.Folder.{file_of, misses};
-ghost use Rattle.sst_cli.specs.Opening.{open_read};
+ghost use Rattle.sst_cli.specs.Opening.{open_read, blocks_read};
 ghost use Rattle.sst_cli.specs.Printed.{IsPrinted, Prints};
 ghost use Rattle.sst_cli.specs.Reading as reading;
 ghost use Rattle.sst_cli.specs.Refusals.{refusal_text};
-ghost use Rattle.sst_cli.specs.Replies.{answers_text};
+ghost use Rattle.sst_cli.specs.Replies.{way_text};
 ghost use Rattle.sst_cli.specs.Run.{IsFault};
+ghost use Rattle.sst_cli.specs.TableBlocks.{blocks_of};
 ghost use Rattle.sst_cli.specs.declared.bbt_fault.BbtFault as faults;
 ghost use Rattle.sst_cli.specs.declared.refusal.Refusal.{Refusal};
 
@@ -31,7 +32,7 @@ use std::alloc::Global;
 
 /// Prints the answers of an open file.
 fn print_all<O: Sink>(alloc: Global, reader: &BbtReader, calls: &[Call], out: &mut O) -> Status
-    ensures { IsPrinted result Status.Done (answers_text reader.now calls.now) (O.written out.old) (O.written out.new)
+    ensures { IsPrinted result Status.Done (way_text (blocks_of reader.now) calls.now) (O.written out.old) (O.written out.new)
         (O.faults out.old) (O.faults out.new) }
 {
     match print_answers(alloc, reader, calls, out) {
@@ -60,7 +61,7 @@ fn answer_calls<F: Folder, O: Sink>(
     out: &mut O,
 ) -> Status
     ensures told { (file : List ℕ) → file_of (F.held files.old) name.now ≡ Some file
-        → IsFault result ⊎ IsAnswered result (open_read file) calls.now (O.written out.old) (O.written out.new) }
+        → IsFault result ⊎ IsAnswered result (blocks_read file) calls.now (O.written out.old) (O.written out.new) }
     ensures printed { (text : List ℕ) × IsAnswersText (file_of (F.held files.old) name.now) calls.now text
         × Prints result text (O.written out.old) (O.written out.new) }
     ensures ends { (result ≡ Status.Done) ⊎ ((result ≡ Status.File) ⊎ IsFault result) }
@@ -90,7 +91,7 @@ pub fn calls<F: Folder, I: Intake, O: Sink>(
 ) -> Status
     ensures told { (text file : List ℕ) (calls : List Call) → I.left input.old ≡ Some text
         → reading.read_calls text ≡ Ok calls → file_of (F.held files.old) name.now ≡ Some file
-        → IsFault result ⊎ (IsAnswered result (open_read file) calls (O.written out.old) (O.written out.new)
+        → IsFault result ⊎ (IsAnswered result (blocks_read file) calls (O.written out.old) (O.written out.new)
         × (I.left input.new ≡ Some [])) }
     ensures refused { (text : List ℕ) (refusal : Refusal) → I.left input.old ≡ Some text
         → reading.read_calls text ≡ Err refusal

@@ -112,7 +112,9 @@ mod program;
 mod reading;
 mod refusal;
 mod reply_line;
+mod separators;
 mod table_parts;
+mod way_laws;
 mod words;
 mod write_command;
 
@@ -129,3 +131,6 @@ pub use opening_laws::{
     a_stored_block_is_read, a_written_file_reads_back, what_opens_is_ordered,
 };
 pub use program::{Status, run};
+pub use way_laws::{
+    a_file_opens_to_its_blocks, a_file_that_stands_is_separated, the_way_is_the_lists,
+};

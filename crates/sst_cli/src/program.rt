@@ -7,7 +7,7 @@ ghost use Rattle.sst_key.specs.declared.calls.Call.{Call};
 ghost use Rattle.sst_key.specs.declared.entries.Entry.{Entry};
 ghost use Rattle.sst_cli.specs.BlockBased.{Opens, BlockBased};
 ghost use Rattle.sst_cli.specs.CallText.{calls_text, AreInLimits, AreOfBytes};
-ghost use Rattle.sst_cli.specs.CallsRun.{Answered, IsDamaged, IsLacking, IsTextFor};
+ghost use Rattle.sst_cli.specs.CallsRun.{Answered, AnsweredByWay, IsDamaged, IsLacking, IsTextFor};
 ghost use Rattle.sst_cli.specs.EntryText.{lines_text, AreBytes};
 ghost use Rattle.sst_cli.specs.Faults.{Rose};
 ghost use Rattle.sst_cli.specs.Folder.{file_of, misses};
@@ -16,6 +16,7 @@ ghost use Rattle.sst_cli.specs.Printed.{Prints};
 ghost use Rattle.sst_cli.specs.Reading as reading;
 ghost use Rattle.sst_cli.specs.Refusals.{refusal_text};
 ghost use Rattle.sst_cli.specs.Run.{IsFault, ChangesOnly, Wrote, usage_text};
+ghost use Rattle.sst_cli.specs.TableBlocks.{blocks_in};
 ghost use Rattle.sst_cli.specs.Words as line;
 ghost use Rattle.sst_cli.specs.Written.{Fits};
 ghost use Rattle.sst_cli.specs.declared.bbt_fault.BbtFault.{BbtFault};
@@ -58,7 +59,9 @@ const USAGE: &str = "usage\n";
 /// - `write block OUT`: the input is a list of entry lines; OUT is begun, and holds the block-based file of the list at
 ///   the end. No line after the first that is refused is looked at.
 /// - `calls FILE`: the input is a list of call lines; each is answered from the list that FILE stands for, in order, as
-///   from one position. The whole input is read and checked before FILE is opened. No file changes.
+///   from one position. The whole input is read and checked before FILE is opened. No file changes. Where a separator in
+///   the index of FILE is before a key of its block, FILE stands for no list; then Get, Seek and SeekForPrev go by the
+///   index, as RocksDB does, and may miss entries that First and Next show (`way_answer`, specs/Way.antt).
 ///
 /// Lines of text are printed, each with LF at its end. The status that is answered stands for a number:
 ///
@@ -128,13 +131,22 @@ pub fn run<F: Folder, I: Intake, O: Sink>(
         → IsFault result ⊎ Answered result entries calls (F.held files.old) (F.held files.new) (I.left input.new)
         (O.written out.old) (O.written out.new) }
 
-    // The same for each text that says calls, and each file whose blocks hold the entries, whatever its separators.
-    ensures answered { (name file text : List ℕ) (entries : List Entry) (calls : List Call)
+    // The same for each text that says calls, in whatever spelling.
+    ensures answered_as_list { (name file text : List ℕ) (entries : List Entry) (calls : List Call)
         → line.calls_name (map string_bytes words.now) ≡ Some name
-        → file_of (F.held files.old) name ≡ Some file → Opens file entries
+        → file_of (F.held files.old) name ≡ Some file → BlockBased file entries
         → I.left input.old ≡ Some text → reading.read_calls text ≡ Ok calls
         → IsFault result ⊎ Answered result entries calls (F.held files.old) (F.held files.new) (I.left input.new)
         (O.written out.old) (O.written out.new) }
+
+    // Each file that opens, whatever its separators, is answered by the way of its blocks: from the block to which the
+    // index leads. Where the separators separate, these are the answers of the list.
+    ensures answered { (name file text : List ℕ) (entries : List Entry) (opens : Opens file entries) (calls : List Call)
+        → line.calls_name (map string_bytes words.now) ≡ Some name
+        → file_of (F.held files.old) name ≡ Some file
+        → I.left input.old ≡ Some text → reading.read_calls text ≡ Ok calls
+        → IsFault result ⊎ AnsweredByWay result (blocks_in file entries opens) calls (F.held files.old)
+        (F.held files.new) (I.left input.new) (O.written out.old) (O.written out.new) }
 
     // A file that doesn't open: the first thing that is wrong with it is printed, and the file shows it.
     ensures damaged { (name file text : List ℕ) (calls : List Call)

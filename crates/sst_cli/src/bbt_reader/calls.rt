@@ -4,9 +4,12 @@ ghost use Rattle.std.specs.Option.{is_some};
 ghost use Rattle.sst_key.specs.Entry.{entry_of};
 ghost use Rattle.sst_key.specs.ListMachine as machine;
 ghost use Rattle.sst_cli.specs.Cursors.{Belongs, Comes, lent};
+ghost use Rattle.sst_cli.specs.TableBlocks.{blocks_of};
+ghost use Rattle.sst_cli.specs.Way.{is_separator_before, seek_tag, seek_for_prev_tag, way_seek, way_get, way_seek_for_prev};
 
 use crate::bbt_reader::BbtReader;
 use crate::list_search::{below, up_to};
+use crate::separators::{is_before_seek, is_before_seek_for_prev};
 use sst_key::{EntryView, Reply};
 use std::marker::Model;
 
@@ -46,8 +49,8 @@ impl BbtReader {
 
     /// The place, if it is one of the list.
     fn place_in(&self, i: usize) -> Option<usize>
-        ensures place { result ≡ machine.place_in self.now i }
-        ensures belongs { Belongs self.now result }
+        ensures place { result ≡ machine.place_in self.now.entries i }
+        ensures belongs { Belongs self.now.entries result }
     {
         if i < self.entries.len() {
             Some(i)
@@ -58,8 +61,8 @@ impl BbtReader {
 
     /// The place after, if it is one of the list.
     fn place_after(&self, i: usize) -> Option<usize>
-        ensures place { result ≡ machine.next_of self.now i }
-        ensures belongs { Belongs self.now result }
+        ensures place { result ≡ machine.next_of self.now.entries i }
+        ensures belongs { Belongs self.now.entries result }
     {
         if i < self.entries.len() {
             self.place_in(i + 1)
@@ -68,20 +71,77 @@ impl BbtReader {
         }
     }
 
-    /// Goes to the newest entry of the user key at the snapshot, and answers true; or to nowhere, and answers
-    /// false, where there is none.
-    ///
-    /// RocksDB: `DB::Get` in include/rocksdb/db.h, with `ReadOptions::snapshot`.
-    pub fn get(&self, c: &mut Cursor, user: &[u8], seq: u64) -> bool
-        ensures place { c.new ≡ machine.get_of self.now user.now seq }
-        ensures found { result ≡ is_some c.new }
-        ensures belongs { Belongs self.now c.new }
+    /// The separator is before the target of a Seek or a Get. With no data block it may say so or not.
+    fn is_before_seek(&self, user: &[u8], seq: u64) -> bool
+        ensures { 0 < length self.now.entries
+            → result ≡ is_separator_before user.now (seek_tag seq) self.now.separator }
     {
-        let i = below(&self.entries, user, seq);
-        c.place = match self.entries.get(i) {
+        if self.entries.is_empty() {
+            true
+        } else {
+            is_before_seek(self.separator.as_slice(), user, seq)
+        }
+    }
+
+    /// The separator is before the target of a SeekForPrev. With no data block it may say so or not.
+    fn is_before_seek_for_prev(&self, user: &[u8], seq: u64) -> bool
+        ensures { 0 < length self.now.entries
+            → result ≡ is_separator_before user.now (seek_for_prev_tag seq) self.now.separator }
+    {
+        if self.entries.is_empty() {
+            true
+        } else {
+            is_before_seek_for_prev(self.separator.as_slice(), user, seq)
+        }
+    }
+
+    /// Where Seek lands: the separator leads to the block or past it, and in the block its entries are halved.
+    fn seek_place(&self, user: &[u8], seq: u64) -> Option<usize>
+        ensures place { result ≡ way_seek (blocks_of self.now) user.now seq }
+        ensures belongs { Belongs self.now.entries result }
+    {
+        if self.is_before_seek(user, seq) {
+            None
+        } else {
+            self.place_in(below(&self.entries, user, seq))
+        }
+    }
+
+    /// Where SeekForPrev lands: past the block it is the last entry.
+    fn seek_for_prev_place(&self, user: &[u8], seq: u64) -> Option<usize>
+        ensures place { result ≡ way_seek_for_prev (blocks_of self.now) user.now seq }
+        ensures belongs { Belongs self.now.entries result }
+    {
+        if self.is_before_seek_for_prev(user, seq) {
+            self.entries.len().checked_sub(1)
+        } else {
+            up_to(&self.entries, user, seq).checked_sub(1)
+        }
+    }
+
+    /// The place, if the entry there has the user key.
+    fn of_user(&self, place: Option<usize>, user: &[u8]) -> Option<usize>
+        requires { Belongs self.now.entries place }
+        ensures place { result ≡ option_and_then (λ i. machine.where_passes (machine.is_of_user user.now) i (slice_get self.now.entries i)) place }
+        ensures belongs { Belongs self.now.entries result }
+    {
+        let i = place?;
+        match self.entries.get(i) {
             Some(entry) if entry.user.as_slice() == user => Some(i),
             _ => None,
-        };
+        }
+    }
+
+    /// Goes to the newest entry of the user key at the snapshot, and answers true; or to nowhere, and answers
+    /// false, where there is none. It looks where a Seek lands.
+    ///
+    /// RocksDB: `BlockBasedTable::Get` in table/block_based/block_based_table_reader.cc.
+    pub fn get(&self, c: &mut Cursor, user: &[u8], seq: u64) -> bool
+        ensures place { c.new ≡ way_get (blocks_of self.now) user.now seq }
+        ensures found { result ≡ is_some c.new }
+        ensures belongs { Belongs self.now.entries c.new }
+    {
+        c.place = self.of_user(self.seek_place(user, seq), user);
         c.place.is_some()
     }
 
@@ -89,8 +149,8 @@ impl BbtReader {
     ///
     /// RocksDB: `Iterator::SeekToFirst`.
     pub fn first(&self, c: &mut Cursor) -> Reply
-        ensures exact { Comes result c.new (machine.lands (machine.first_of self.now)) }
-        ensures belongs { Belongs self.now c.new }
+        ensures exact { Comes result c.new (machine.lands (machine.first_of self.now.entries)) }
+        ensures belongs { Belongs self.now.entries c.new }
     {
         c.place = self.place_in(0);
         reply(c.place)
@@ -100,32 +160,34 @@ impl BbtReader {
     ///
     /// RocksDB: `Iterator::SeekToLast`.
     pub fn last(&self, c: &mut Cursor) -> Reply
-        ensures exact { Comes result c.new (machine.lands (machine.last_of self.now)) }
-        ensures belongs { Belongs self.now c.new }
+        ensures exact { Comes result c.new (machine.lands (machine.last_of self.now.entries)) }
+        ensures belongs { Belongs self.now.entries c.new }
     {
         c.place = self.entries.len().checked_sub(1);
         reply(c.place)
     }
 
-    /// Goes to the first entry at or after the target.
+    /// Goes to the first entry at or after the target, by the way of the index: to nowhere where the separator is before
+    /// the target.
     ///
-    /// RocksDB: `Iterator::Seek`.
+    /// RocksDB: `BlockBasedTableIterator::Seek` in table/block_based/block_based_table_iterator.cc.
     pub fn seek(&self, c: &mut Cursor, user: &[u8], seq: u64) -> Reply
-        ensures exact { Comes result c.new (machine.lands (machine.seek_of self.now user.now seq)) }
-        ensures belongs { Belongs self.now c.new }
+        ensures exact { Comes result c.new (machine.lands (way_seek (blocks_of self.now) user.now seq)) }
+        ensures belongs { Belongs self.now.entries c.new }
     {
-        c.place = self.place_in(below(&self.entries, user, seq));
+        c.place = self.seek_place(user, seq);
         reply(c.place)
     }
 
-    /// Goes to the last entry at or before the target.
+    /// Goes to the last entry at or before the target, by the way of the index: to the last of all where the separator is
+    /// before the target.
     ///
-    /// RocksDB: `Iterator::SeekForPrev`.
+    /// RocksDB: `BlockBasedTableIterator::SeekForPrev` in table/block_based/block_based_table_iterator.cc.
     pub fn seek_for_prev(&self, c: &mut Cursor, user: &[u8], seq: u64) -> Reply
-        ensures exact { Comes result c.new (machine.lands (machine.seek_for_prev_of self.now user.now seq)) }
-        ensures belongs { Belongs self.now c.new }
+        ensures exact { Comes result c.new (machine.lands (way_seek_for_prev (blocks_of self.now) user.now seq)) }
+        ensures belongs { Belongs self.now.entries c.new }
     {
-        c.place = up_to(&self.entries, user, seq).checked_sub(1);
+        c.place = self.seek_for_prev_place(user, seq);
         reply(c.place)
     }
 
@@ -133,9 +195,9 @@ impl BbtReader {
     ///
     /// RocksDB: `Iterator::Next`.
     pub fn next(&self, c: &mut Cursor) -> Reply
-        requires { Belongs self.now c.old }
-        ensures exact { Comes result c.new (machine.steps_on self.now c.old) }
-        ensures belongs { Belongs self.now c.new }
+        requires { Belongs self.now.entries c.old }
+        ensures exact { Comes result c.new (machine.steps_on self.now.entries c.old) }
+        ensures belongs { Belongs self.now.entries c.new }
     {
         match c.place {
             None => Reply::NotPositioned,
@@ -150,9 +212,9 @@ impl BbtReader {
     ///
     /// RocksDB: `Iterator::Prev`.
     pub fn prev(&self, c: &mut Cursor) -> Reply
-        requires { Belongs self.now c.old }
+        requires { Belongs self.now.entries c.old }
         ensures exact { Comes result c.new (machine.steps_back c.old) }
-        ensures belongs { Belongs self.now c.new }
+        ensures belongs { Belongs self.now.entries c.new }
     {
         match c.place {
             None => Reply::NotPositioned,
@@ -165,8 +227,8 @@ impl BbtReader {
 
     /// The entry on which the cursor stands, lent; none where it stands nowhere.
     pub fn entry(&self, c: &Cursor) -> Option<EntryView<'_>>
-        requires { Belongs self.now c.now }
-        ensures { lent result ≡ option_and_then (λ i. slice_get self.now i) c.now }
+        requires { Belongs self.now.entries c.now }
+        ensures { lent result ≡ option_and_then (λ i. slice_get self.now.entries i) c.now }
     {
         let entry = self.entries.get(c.place?)?;
         Some(EntryView {

@@ -1,8 +1,10 @@
 use Rattle.std.proofs.Common.{Ok, Err, refl, sym, inl, inr}
 use Rattle.sst_cli.specs.FaultText.{fault_text}
 use Rattle.sst_cli.specs.Folder.{file_of}
-use Rattle.sst_cli.specs.BlockBased.{rows_of}
-use Rattle.sst_cli.specs.Replies.{answers_text}
+use Rattle.sst_cli.specs.TableBlocks.{blocks_of, row_blocks_of}
+use Rattle.sst_cli.proofs.BlocksOpened.{open_read-fault_of}
+use Rattle.sst_cli.proofs.OneBlock.{table-seqs}
+use Rattle.sst_cli.specs.Replies.{way_text}
 use Rattle.sst_cli.proofs.CallsPrinted.{file_text_is, some_answers_text}
 use Rattle.sst_cli.proofs.PrintedTexts.{some_printed, none_printed}
 use Rattle.sst_cli.proofs.call_command.answer_calls.Goals as goal
@@ -10,10 +12,10 @@ use Rattle.sst_cli.proofs.call_command.answer_calls.Goals as goal
 -- src/call_command.rt:53:1
 pub returns-in-Ok-clause-printed : goal.returns-in-Ok-clause-printed
 returns-in-Ok-clause-printed g c =
-    let text = answers_text c.in-Ok.reader c.args.calls.now in
+    let text = way_text (blocks_of c.in-Ok.reader) c.args.calls.now in
     let file = file_of (g.F.Folder.held c.args.files.now) c.args.name.now in (
       text,
-      file_text_is file (Ok (rows_of c.in-Ok.reader)) c.args.calls.now text c.in-Ok.ensures.told (c.in-Ok.reader, rw (sym c.reader.view_is) c.reader.invariant.seqs, refl, refl),
+      file_text_is file (Ok (row_blocks_of (blocks_of c.in-Ok.reader))) c.args.calls.now text c.in-Ok.ensures.told (blocks_of c.in-Ok.reader, table-seqs c.in-Ok.reader (rw (sym c.reader.view_is) c.reader.invariant), refl, refl),
       some_printed _ _ text (g.O.Sink.written c.args.out.now) (g.O.Sink.written c.print_all.new.out) (g.O.Sink.faults c.args.out.now) (g.O.Sink.faults c.print_all.new.out) c.print_all.ensures,
     )
 
@@ -39,3 +41,8 @@ pub returns-in-Err-Memory-clause-printed : goal.returns-in-Err-Memory-clause-pri
 returns-in-Err-Memory-clause-printed g c =
     let some = some_answers_text (file_of (g.F.Folder.held c.args.files.now) c.args.name.now) c.args.calls.now in
     (some.0, some.1, none_printed _ some.0 (g.O.Sink.written c.args.out.now) (inr refl))
+
+pub returns-in-Err-Damage-clause-damaged : goal.returns-in-Err-Damage-clause-damaged
+returns-in-Err-Damage-clause-damaged g c = λ ends file held.
+    let reads = rw c.in-Err-Damage.field-0-is at c.in-Err-Damage.ensures.told in
+    (c.in-Err-Damage.fault, open_read-fault_of file c.in-Err-Damage.fault (reads file held))

@@ -5,7 +5,7 @@ use Rattle.sst_cli.specs.CallsRun.{IsTextFor, IsOtherText}
 use Rattle.sst_cli.specs.EntryText.{lines_text}
 use Rattle.sst_cli.specs.Run.{usage_text}
 use Rattle.sst_cli.proofs.CallRoundTrip.{read_calls-text}
-use Rattle.sst_cli.proofs.CallsPrinted.{answered_list, answered_damage, only_out}
+use Rattle.sst_cli.proofs.CallsPrinted.{answered_list, answered_way, answered_damage, only_out}
 use Rattle.sst_cli.proofs.ListRoundTrip.{read_input-lines}
 use Rattle.sst_cli.proofs.PrintedTexts.{some_printed, named}
 use Rattle.sst_cli.proofs.program.run.Goals as goal
@@ -16,22 +16,33 @@ returns-in-Some-clause-headline_write g c = λ name entries words fits bytes lef
     let written = c.write.ensures.written (lines_text entries) entries left (read_input-lines entries fits bytes) in
     rw same at written
 
+pub returns-in-Some-clause-answered_as_list : goal.returns-in-Some-clause-answered_as_list
+returns-in-Some-clause-answered_as_list g c = λ name file text entries calls words held stands left reads.
+    only_out (map string_bytes c.args.words.now) c.in-Some.name.now name _ c.in-Some.ensures words
+
 pub returns-in-Some-clause-answered : goal.returns-in-Some-clause-answered
-returns-in-Some-clause-answered g c = λ name file text entries calls words held opens left reads.
+returns-in-Some-clause-answered g c = λ name file text entries opens calls words held left reads.
     only_out (map string_bytes c.args.words.now) c.in-Some.name.now name _ c.in-Some.ensures words
 
 pub returns-in-Some-calls_name-clause-headline_calls : goal.returns-in-Some-calls_name-clause-headline_calls
 returns-in-Some-calls_name-clause-headline_calls g c = λ name file entries calls words held stands few limits bytes left.
     let same = named c.in-Some-calls_name.name.now name _ c.in-Some-calls_name.ensures words in
     let told = rw same at c.calls.ensures.told in
-    answered_list c.calls.result file entries calls (g.F.Folder.held c.args.files.now) (g.F.Folder.held c.calls.new.files) (g.I.Intake.left c.calls.new.input) (g.O.Sink.written c.args.out.now) (g.O.Sink.written c.calls.new.out) stands.opens
+    answered_list c.calls.result file entries stands calls (g.F.Folder.held c.args.files.now) (g.F.Folder.held c.calls.new.files) (g.I.Intake.left c.calls.new.input) (g.O.Sink.written c.args.out.now) (g.O.Sink.written c.calls.new.out)
     (told (calls_text calls) file calls left (read_calls-text calls few limits bytes) held) c.calls.ensures.kept
 
-pub returns-in-Some-calls_name-clause-answered : goal.returns-in-Some-calls_name-clause-answered
-returns-in-Some-calls_name-clause-answered g c = λ name file text entries calls words held opens left reads.
+pub returns-in-Some-calls_name-clause-answered_as_list : goal.returns-in-Some-calls_name-clause-answered_as_list
+returns-in-Some-calls_name-clause-answered_as_list g c = λ name file text entries calls words held stands left reads.
     let same = named c.in-Some-calls_name.name.now name _ c.in-Some-calls_name.ensures words in
     let told = rw same at c.calls.ensures.told in
-    answered_list c.calls.result file entries calls (g.F.Folder.held c.args.files.now) (g.F.Folder.held c.calls.new.files) (g.I.Intake.left c.calls.new.input) (g.O.Sink.written c.args.out.now) (g.O.Sink.written c.calls.new.out) opens
+    answered_list c.calls.result file entries stands calls (g.F.Folder.held c.args.files.now) (g.F.Folder.held c.calls.new.files) (g.I.Intake.left c.calls.new.input) (g.O.Sink.written c.args.out.now) (g.O.Sink.written c.calls.new.out)
+    (told text file calls left reads held) c.calls.ensures.kept
+
+pub returns-in-Some-calls_name-clause-answered : goal.returns-in-Some-calls_name-clause-answered
+returns-in-Some-calls_name-clause-answered g c = λ name file text entries opens calls words held left reads.
+    let same = named c.in-Some-calls_name.name.now name _ c.in-Some-calls_name.ensures words in
+    let told = rw same at c.calls.ensures.told in
+    answered_way c.calls.result file entries opens calls (g.F.Folder.held c.args.files.now) (g.F.Folder.held c.calls.new.files) (g.I.Intake.left c.calls.new.input) (g.O.Sink.written c.args.out.now) (g.O.Sink.written c.calls.new.out)
     (told text file calls left reads held) c.calls.ensures.kept
 
 pub returns-in-Some-calls_name-clause-damaged : goal.returns-in-Some-calls_name-clause-damaged

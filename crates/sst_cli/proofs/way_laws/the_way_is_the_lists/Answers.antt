@@ -1,0 +1,9 @@
+use Rattle.std.proofs.Common.{None}
+use Rattle.sst_cli.proofs.WayLaws.{answer-same, replies-same}
+use Rattle.sst_cli.proofs.way_laws.the_way_is_the_lists.Goals as goal
+
+pub returns-clause-answers : goal.returns-clause-answers
+returns-clause-answers c = answer-same
+
+pub returns-clause-replies : goal.returns-clause-replies
+returns-clause-replies c = λ blocks calls apart seqs. replies-same blocks None calls apart seqs
