@@ -43,7 +43,7 @@ Runs file end (row ∷ []) entries = LeadsTo file end row entries
 Runs file end (row ∷ next ∷ rest) entries = ⊥
 
 -- The file opens: its footer and its blocks are good, and the data blocks hold these entries. Nothing is said of the
--- separators, which a reader of whole blocks doesn't need.
+-- separators: where they don't separate, the file opens, and a target leads where its index does (Way).
 pub record Opens (file : List ℕ) (entries : List Entry) : Type 0 where
   pub end : ℕ
   pub metaindex : Handle

@@ -25,6 +25,8 @@ use std::marker::Model;
 
 #[cfg(test)]
 mod tests;
+#[cfg(test)]
+mod way_tests;
 
 /// A block-based file that is open.
 ///

@@ -61,6 +61,10 @@
 //! - A file opens to a list exactly where it reads as its rows ([`a_file_opens_to_its_rows`]), stands for one
 //!   list at most ([`a_file_stands_for_one_list`]), and, if it is of bytes, shows a fault exactly where it opens
 //!   to none ([`a_file_that_opens_shows_no_fault`]).
+//! - On a file that stands for a list (`BlockBased`, specs/BlockBased.antt) `calls FILE` answers as the list does. On one
+//!   that opens, but whose separator is before a key of its block, it goes by the index, as RocksDB does (`way_answer`,
+//!   specs/Way.antt). Where the separators separate, the two ways are one ([`the_way_is_the_lists`],
+//!   [`a_file_that_stands_is_separated`]).
 //! - Device is answered only with a counted fault. No file but OUT changes.
 //! - A reader opens a file to the entries that its bytes say, or answers the first thing that is wrong
 //!   (`open_read`, specs/Opening.antt).
