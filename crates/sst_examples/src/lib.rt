@@ -19,6 +19,12 @@
 #![tactic(auto)]
 
 #[cfg(test)]
+mod calls;
+#[cfg(test)]
+mod damaged;
+#[cfg(test)]
+mod damaged_blocks;
+#[cfg(test)]
 mod lists;
 #[cfg(test)]
 mod one_block;

@@ -6,10 +6,9 @@
 //! RocksDB: `BlockBuilder` in table/block_based/block_builder.cc, `FooterBuilder::Build` in table/format.cc.
 use crate::worked_run::{
     NAME, NONE_FAILS, Ran, WORDS, holds, other_is_as_it_was, printed, put_hex, refused, run_on,
-    run_with_stuck_sink, written,
+    run_with_stuck_sink, still_to_come, written,
 };
 use sst_cli::Status;
-use sst_cli::device::stream::Intake;
 use std::alloc::Global;
 use std::process::Abort;
 use std::test::Fail;
@@ -21,7 +20,7 @@ const LINE: &str = "61 1 P 78\n";
 const DONE: &str = "wrote 1\n";
 
 /// What differs between the files of one entry, in hex digits.
-struct OneEntry {
+pub(crate) struct OneEntry {
     /// The row of the data block, which begins at 0.
     row: &'static str,
     /// The checksum of the data block.
@@ -35,7 +34,7 @@ struct OneEntry {
 }
 
 /// The file of the line `61 1 P 78`: the index block stands at 26, and the metaindex block at 53.
-static ONE_ENTRY: OneEntry = OneEntry {
+pub(crate) static ONE_ENTRY: OneEntry = OneEntry {
     row: "00090161010100000000000078",
     checksum: "84dd8874",
     index_row: "0009026101010000000000000015",
@@ -69,7 +68,7 @@ const ONE_RESTART: &str = "0000000001000000";
 const NO_COMPRESSION: &str = "00";
 
 /// The file of one entry.
-fn file_of(alloc: Global, parts: &OneEntry) -> Result<Vec<u8>, Fail> {
+pub(crate) fn file_of(alloc: Global, parts: &OneEntry) -> Result<Vec<u8>, Fail> {
     let mut file = Vec::new(alloc);
     let data_block = [parts.row, ONE_RESTART, NO_COMPRESSION, parts.checksum];
     put_hex(alloc, &mut file, &data_block)?;
@@ -186,15 +185,6 @@ fn words_that_are_no_command(rt: HostRuntime) -> Result<(), Fail> {
         assert!(rt; still_to_come(&mut ran, LINE), "on {words:?}");
     }
     Ok(())
-}
-
-/// Whether this is what the input still has to give.
-fn still_to_come(ran: &mut Ran, text: &str) -> bool {
-    let mut room = [0; 64];
-    match ran.intake.take(&mut room) {
-        Ok(n) => room.get(..n) == Some(text.as_bytes()),
-        Err(_) => false,
-    }
 }
 
 /// Asserts that a run in which one call was to fail ended as it has to, and answers whether one did. The file that
