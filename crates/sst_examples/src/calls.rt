@@ -15,7 +15,7 @@ use std::process::Abort;
 use std::test::Fail;
 
 /// The file that is written for these lines.
-fn file_of_lines(alloc: Global, lines: &str) -> Result<Vec<u8>, Fail> {
+pub(crate) fn file_of_lines(alloc: Global, lines: &str) -> Result<Vec<u8>, Fail> {
     let ran = written(alloc, lines.as_bytes())?;
     match ran.folder.file(NAME) {
         Some(file) => Ok(Vec::from_slice(alloc, file)?),
@@ -25,7 +25,7 @@ fn file_of_lines(alloc: Global, lines: &str) -> Result<Vec<u8>, Fail> {
 
 /// Asserts that the calls are answered from the file with this text, that the input is read to its end, and that no
 /// file changes.
-fn assert_answered(
+pub(crate) fn assert_answered(
     rt: &impl Abort,
     alloc: Global,
     file: &[u8],

@@ -71,7 +71,12 @@ pub(crate) fn assert_damaged(
 }
 
 /// Asserts that the file is refused with this fault, and that no file changes.
-fn assert_refused(rt: &impl Abort, alloc: Global, file: &[u8], fault: &str) -> Result<(), Fail> {
+pub(crate) fn assert_refused(
+    rt: &impl Abort,
+    alloc: Global,
+    file: &[u8],
+    fault: &str,
+) -> Result<(), Fail> {
     let ran = answered(alloc, file, b"first\n")?;
     let text = format!(in alloc; "damage {fault}\n")?;
     assert_eq!(rt; ran.status, Status::File, "with {fault}");
@@ -469,13 +474,6 @@ static STORED: [(&[&str], &str); 18] = [
 #[test]
 fn stored_blocks(rt: HostRuntime) -> Result<(), Fail> {
     assert_damaged(&rt, rt.alloc(), &STORED)
-}
-
-/// Appends so many zeros.
-fn put_zeros(alloc: Global, file: &mut Vec<u8>, count: usize) -> Result<(), Fail> {
-    let zeros = vec![in alloc; 0; count]?;
-    file.extend_from_slice(&zeros)?;
-    Ok(())
 }
 
 #[test]

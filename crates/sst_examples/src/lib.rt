@@ -21,9 +21,17 @@
 #[cfg(test)]
 mod calls;
 #[cfg(test)]
+mod calls_counted;
+#[cfg(test)]
+mod calls_outside;
+#[cfg(test)]
 mod damaged;
 #[cfg(test)]
 mod damaged_blocks;
+#[cfg(test)]
+mod damaged_large;
+#[cfg(test)]
+mod damaged_twice;
 #[cfg(test)]
 mod lists;
 #[cfg(test)]

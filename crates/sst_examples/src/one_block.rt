@@ -5,8 +5,8 @@
 //!
 //! RocksDB: `BlockBuilder` in table/block_based/block_builder.cc, `FooterBuilder::Build` in table/format.cc.
 use crate::worked_run::{
-    NAME, NONE_FAILS, Ran, WORDS, holds, other_is_as_it_was, printed, put_hex, refused, run_on,
-    run_with_stuck_sink, still_to_come, written,
+    NAME, NONE_FAILS, Object, Ran, WORDS, failing_at, holds, other_is_as_it_was, printed, put_hex,
+    refused, run_on, run_with_stuck_sink, still_to_come, written,
 };
 use sst_cli::Status;
 use std::alloc::Global;
@@ -201,24 +201,10 @@ fn failed(rt: &impl Abort, ran: &Ran, file: &[u8]) -> bool {
     true
 }
 
-/// The objects whose calls fail.
-#[derive(Clone, Copy, Debug, PartialEq, Eq)]
-enum Object {
-    Folder,
-    Intake,
-    Sink,
-}
-
 /// A run in which the call of this number of this object fails.
 fn run_failing(alloc: Global, object: Object, number: u64) -> Result<Ran, Fail> {
     let numbers = [number];
-    let mut failing = NONE_FAILS;
-    match object {
-        Object::Folder => failing.folder = &numbers,
-        Object::Intake => failing.intake = &numbers,
-        Object::Sink => failing.sink = &numbers,
-    }
-    run_on(alloc, &WORDS, LINE.as_bytes(), failing)
+    run_on(alloc, &WORDS, LINE.as_bytes(), failing_at(object, &numbers))
 }
 
 #[test]

@@ -35,6 +35,25 @@ pub(crate) const NONE_FAILS: Failing<'static> = Failing {
     sink: &[],
 };
 
+/// The objects whose calls fail.
+#[derive(Clone, Copy, Debug, PartialEq, Eq)]
+pub(crate) enum Object {
+    Folder,
+    Intake,
+    Sink,
+}
+
+/// The calls of one object with these numbers fail.
+pub(crate) fn failing_at(object: Object, numbers: &[u64]) -> Failing<'_> {
+    let mut failing = NONE_FAILS;
+    match object {
+        Object::Folder => failing.folder = numbers,
+        Object::Intake => failing.intake = numbers,
+        Object::Sink => failing.sink = numbers,
+    }
+    failing
+}
+
 /// How a run ended, and what it left.
 #[derive(Debug, Drop)]
 pub(crate) struct Ran {
@@ -100,6 +119,19 @@ pub(crate) fn run_with_stuck_sink(
     let intake = MemIntake::new(alloc, input, &[])?;
     let sink = MemSink::stuck(alloc, &[1])?;
     run_over(alloc, words, folder, intake, sink)
+}
+
+/// Runs the command that answers calls from a file of these bytes, over an output whose first call takes nothing.
+pub(crate) fn answered_with_stuck_sink(
+    alloc: Global,
+    file: &[u8],
+    input: &[u8],
+) -> Result<Ran, Fail> {
+    let mut folder = MemFolder::new(alloc, &[])?;
+    folder.put_file(NAME, file)?;
+    let intake = MemIntake::new(alloc, input, &[])?;
+    let sink = MemSink::stuck(alloc, &[1])?;
+    run_over(alloc, &CALLS, folder, intake, sink)
 }
 
 /// Runs the program over these objects, with the other file in the folder.
