@@ -349,3 +349,56 @@ fn files_from_another_writer(rt: HostRuntime) -> Result<(), Fail> {
     }
     Ok(())
 }
+
+/// A file of the same entries whose index row's key is `616161 5 D`, though entries come after it.
+static BEHIND_SEPARATOR: [&str; 14] = [
+    "000b01616161010900000000000031",
+    "0308000005000000000000",
+    "02090162020300000000000032",
+    "010900620707000000000000",
+    "020801010100000000000033",
+    "0000000001000000",
+    "0023afbad4",
+    "000b0261616100050000000000000047",
+    "0000000001000000",
+    "00bd7af2b9",
+    "000000000100000000c0f2a1b0",
+    "0169084c18",
+    "000000000000000000000000000000000000000000000000000000000000000000000000",
+    "02000000f7cff485b741e288",
+];
+
+/// Calls on that file, and their answers.
+static ON_BEHIND_SEPARATOR: [(&str, &str); 4] = [
+    // The calls without a target go over all entries.
+    (
+        "first\nnext\nnext\nlast\nprev\n",
+        "616161 9 P 31\n616161 5 D -\n616162 3 M 32\n6162 1 P 33\n6162 7 S -\n",
+    ),
+    // Behind the separator Seek ends nowhere, though there are entries.
+    (
+        "seek 616161 5\nseek 616161 4\nnext\n",
+        "616161 5 D -\nnone\nnot-positioned\n",
+    ),
+    // So Get finds none there.
+    (
+        "get 616161 9\nget 616161 4\nget 616162 3\nget 6162 9\n",
+        "616161 9 P 31\nnone\nnone\nnone\n",
+    ),
+    // SeekForPrev lands at the last entry of all.
+    (
+        "seek_for_prev 616161 5\nseek_for_prev 616161 4\nprev\nseek_for_prev 6162 9\nseek_for_prev 616161 20\n",
+        "616161 5 D -\n6162 1 P 33\n6162 7 S -\n6162 1 P 33\nnone\n",
+    ),
+];
+
+// RocksDB: `BlockBasedTableIterator` in table/block_based/block_based_table_iterator.cc goes by the index.
+#[test]
+fn entries_behind_the_separator(rt: HostRuntime) -> Result<(), Fail> {
+    let mut file = Vec::new(rt.alloc());
+    put_hex(rt.alloc(), &mut file, &BEHIND_SEPARATOR)?;
+    for (calls, text) in ON_BEHIND_SEPARATOR {
+        assert_answered(&rt, rt.alloc(), &file, calls, text)?;
+    }
+    Ok(())
+}

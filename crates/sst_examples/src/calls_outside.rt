@@ -188,6 +188,24 @@ fn an_absent_file(rt: HostRuntime) -> Result<(), Fail> {
     Ok(())
 }
 
+// One byte is missing. The input is refused before the file is opened.
+#[test]
+fn a_file_cut_short(rt: HostRuntime) -> Result<(), Fail> {
+    let mut file = file_of(rt.alloc(), &ONE_ENTRY)?;
+    file.truncate(118);
+    for (input, status, text) in [
+        ("", Status::File, "damage not-table\n"),
+        (LINE, Status::File, "damage not-table\n"),
+        ("first\nput\n", Status::Input, "input 2 line\n"),
+    ] {
+        let ran = answered(rt.alloc(), &file, input.as_bytes())?;
+        assert_eq!(rt; ran.status, status, "on {input}");
+        assert!(rt; printed(&ran, text), "on {input}");
+        assert!(rt; holds(&ran, NAME, &file), "on {input}");
+    }
+    Ok(())
+}
+
 /// The lines of one entry whose value has so many hex digits, and the line of the entry `count` times.
 fn lines_of_value(alloc: Global, digits: usize, count: usize) -> Result<String, Fail> {
     let value = vec![in alloc; b'7'; digits]?;

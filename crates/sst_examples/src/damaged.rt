@@ -475,13 +475,3 @@ static STORED: [(&[&str], &str); 18] = [
 fn stored_blocks(rt: HostRuntime) -> Result<(), Fail> {
     assert_damaged(&rt, rt.alloc(), &STORED)
 }
-
-#[test]
-fn a_file_cut_short(rt: HostRuntime) -> Result<(), Fail> {
-    let whole = [DATA, INDEX, METAINDEX, FRONT, TAIL];
-    let mut file = Vec::new(rt.alloc());
-    put_hex(rt.alloc(), &mut file, &whole)?;
-    assert_eq!(rt; file.len(), 119);
-    file.truncate(118);
-    assert_refused(&rt, rt.alloc(), &file, "not-table")
-}
