@@ -11,13 +11,39 @@
 //!   └────  output in memory ──┘
 //! ```
 //!
-//! Expected bytes come from the worked layout of the format and from an independent program that writes the same
-//! files, never from the output of this program.
+//! Expected bytes and answers come from the worked layout of the format, from a count by hand over the list, and from
+//! an independent program that writes and reads the same files, never from the output of this program.
+//!
+//! The command `write`:
 //!
 //! - [`one_block`]: one line written as one block.
 //! - [`lists`]: any list within the limits written as one block, and each refusal by its name.
+//!
+//! The command `calls`:
+//!
+//! - [`calls`]: answers from files that were written here and from files of another writer.
+//! - [`calls_counted`]: answers at every target, as a plain count over the list gives them.
+//! - [`calls_outside`]: words, inputs that are refused, a file that isn't there, and calls outside that fail.
+//! - [`damaged`]: files whose footer is at fault, or a stored block.
+//! - [`damaged_blocks`]: files with a block whose bytes are at fault.
+//! - [`damaged_twice`]: files with two faults, of which the first is told.
+//! - [`damaged_large`]: blocks and keys past their limits. These files take a gigabyte of memory.
 #![tactic(auto)]
 
+#[cfg(test)]
+mod calls;
+#[cfg(test)]
+mod calls_counted;
+#[cfg(test)]
+mod calls_outside;
+#[cfg(test)]
+mod damaged;
+#[cfg(test)]
+mod damaged_blocks;
+#[cfg(test)]
+mod damaged_large;
+#[cfg(test)]
+mod damaged_twice;
 #[cfg(test)]
 mod lists;
 #[cfg(test)]

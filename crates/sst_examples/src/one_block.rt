@@ -5,11 +5,10 @@
 //!
 //! RocksDB: `BlockBuilder` in table/block_based/block_builder.cc, `FooterBuilder::Build` in table/format.cc.
 use crate::worked_run::{
-    NAME, NONE_FAILS, Ran, WORDS, holds, other_is_as_it_was, printed, put_hex, refused, run_on,
-    run_with_stuck_sink, written,
+    NAME, NONE_FAILS, Object, Ran, WORDS, failing_at, holds, other_is_as_it_was, printed, put_hex,
+    refused, run_on, run_with_stuck_sink, still_to_come, written,
 };
 use sst_cli::Status;
-use sst_cli::device::stream::Intake;
 use std::alloc::Global;
 use std::process::Abort;
 use std::test::Fail;
@@ -21,7 +20,7 @@ const LINE: &str = "61 1 P 78\n";
 const DONE: &str = "wrote 1\n";
 
 /// What differs between the files of one entry, in hex digits.
-struct OneEntry {
+pub(crate) struct OneEntry {
     /// The row of the data block, which begins at 0.
     row: &'static str,
     /// The checksum of the data block.
@@ -35,7 +34,7 @@ struct OneEntry {
 }
 
 /// The file of the line `61 1 P 78`: the index block stands at 26, and the metaindex block at 53.
-static ONE_ENTRY: OneEntry = OneEntry {
+pub(crate) static ONE_ENTRY: OneEntry = OneEntry {
     row: "00090161010100000000000078",
     checksum: "84dd8874",
     index_row: "0009026101010000000000000015",
@@ -69,7 +68,7 @@ const ONE_RESTART: &str = "0000000001000000";
 const NO_COMPRESSION: &str = "00";
 
 /// The file of one entry.
-fn file_of(alloc: Global, parts: &OneEntry) -> Result<Vec<u8>, Fail> {
+pub(crate) fn file_of(alloc: Global, parts: &OneEntry) -> Result<Vec<u8>, Fail> {
     let mut file = Vec::new(alloc);
     let data_block = [parts.row, ONE_RESTART, NO_COMPRESSION, parts.checksum];
     put_hex(alloc, &mut file, &data_block)?;
@@ -188,15 +187,6 @@ fn words_that_are_no_command(rt: HostRuntime) -> Result<(), Fail> {
     Ok(())
 }
 
-/// Whether this is what the input still has to give.
-fn still_to_come(ran: &mut Ran, text: &str) -> bool {
-    let mut room = [0; 64];
-    match ran.intake.take(&mut room) {
-        Ok(n) => room.get(..n) == Some(text.as_bytes()),
-        Err(_) => false,
-    }
-}
-
 /// Asserts that a run in which one call was to fail ended as it has to, and answers whether one did. The file that
 /// is written where none did is told.
 fn failed(rt: &impl Abort, ran: &Ran, file: &[u8]) -> bool {
@@ -211,24 +201,10 @@ fn failed(rt: &impl Abort, ran: &Ran, file: &[u8]) -> bool {
     true
 }
 
-/// The objects whose calls fail.
-#[derive(Clone, Copy, Debug, PartialEq, Eq)]
-enum Object {
-    Folder,
-    Intake,
-    Sink,
-}
-
 /// A run in which the call of this number of this object fails.
 fn run_failing(alloc: Global, object: Object, number: u64) -> Result<Ran, Fail> {
     let numbers = [number];
-    let mut failing = NONE_FAILS;
-    match object {
-        Object::Folder => failing.folder = &numbers,
-        Object::Intake => failing.intake = &numbers,
-        Object::Sink => failing.sink = &numbers,
-    }
-    run_on(alloc, &WORDS, LINE.as_bytes(), failing)
+    run_on(alloc, &WORDS, LINE.as_bytes(), failing_at(object, &numbers))
 }
 
 #[test]

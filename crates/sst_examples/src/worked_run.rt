@@ -1,5 +1,6 @@
 //! A run of the program over a folder, an input and an output in memory.
 use sst_cli::device::memory::{MemFolder, MemIntake, MemSink};
+use sst_cli::device::stream::Intake;
 use sst_cli::{Status, run};
 use std::alloc::Global;
 use std::test::Fail;
@@ -9,6 +10,9 @@ pub(crate) const NAME: &str = "one.sst";
 
 /// The words that write it.
 pub(crate) const WORDS: [&str; 3] = ["write", "block", NAME];
+
+/// The words that answer calls from it.
+pub(crate) const CALLS: [&str; 2] = ["calls", NAME];
 
 /// The file that stands in the folder before each run.
 const OTHER: &str = "other.sst";
@@ -30,6 +34,25 @@ pub(crate) const NONE_FAILS: Failing<'static> = Failing {
     intake: &[],
     sink: &[],
 };
+
+/// The objects whose calls fail.
+#[derive(Clone, Copy, Debug, PartialEq, Eq)]
+pub(crate) enum Object {
+    Folder,
+    Intake,
+    Sink,
+}
+
+/// The calls of one object with these numbers fail.
+pub(crate) fn failing_at(object: Object, numbers: &[u64]) -> Failing<'_> {
+    let mut failing = NONE_FAILS;
+    match object {
+        Object::Folder => failing.folder = numbers,
+        Object::Intake => failing.intake = numbers,
+        Object::Sink => failing.sink = numbers,
+    }
+    failing
+}
 
 /// How a run ended, and what it left.
 #[derive(Debug, Drop)]
@@ -67,6 +90,25 @@ pub(crate) fn written(alloc: Global, input: &[u8]) -> Result<Ran, Fail> {
     run_on(alloc, &WORDS, input, NONE_FAILS)
 }
 
+/// Runs the command that answers calls from a file of these bytes.
+pub(crate) fn answered_with(
+    alloc: Global,
+    file: &[u8],
+    input: &[u8],
+    failing: Failing<'_>,
+) -> Result<Ran, Fail> {
+    let mut folder = MemFolder::new(alloc, failing.folder)?;
+    folder.put_file(NAME, file)?;
+    let intake = MemIntake::new(alloc, input, failing.intake)?;
+    let sink = MemSink::new(alloc, failing.sink)?;
+    run_over(alloc, &CALLS, folder, intake, sink)
+}
+
+/// Runs the command that answers calls from a file of these bytes, with no call outside that fails.
+pub(crate) fn answered(alloc: Global, file: &[u8], input: &[u8]) -> Result<Ran, Fail> {
+    answered_with(alloc, file, input, NONE_FAILS)
+}
+
 /// Runs the program over an output whose first call takes nothing.
 pub(crate) fn run_with_stuck_sink(
     alloc: Global,
@@ -77,6 +119,19 @@ pub(crate) fn run_with_stuck_sink(
     let intake = MemIntake::new(alloc, input, &[])?;
     let sink = MemSink::stuck(alloc, &[1])?;
     run_over(alloc, words, folder, intake, sink)
+}
+
+/// Runs the command that answers calls from a file of these bytes, over an output whose first call takes nothing.
+pub(crate) fn answered_with_stuck_sink(
+    alloc: Global,
+    file: &[u8],
+    input: &[u8],
+) -> Result<Ran, Fail> {
+    let mut folder = MemFolder::new(alloc, &[])?;
+    folder.put_file(NAME, file)?;
+    let intake = MemIntake::new(alloc, input, &[])?;
+    let sink = MemSink::stuck(alloc, &[1])?;
+    run_over(alloc, &CALLS, folder, intake, sink)
 }
 
 /// Runs the program over these objects, with the other file in the folder.
@@ -118,6 +173,15 @@ pub(crate) fn holds(ran: &Ran, name: &str, bytes: &[u8]) -> bool {
 /// Whether this was printed, and nothing else.
 pub(crate) fn printed(ran: &Ran, text: &str) -> bool {
     ran.sink.bytes() == text.as_bytes()
+}
+
+/// Whether this is what the input still has to give.
+pub(crate) fn still_to_come(ran: &mut Ran, text: &str) -> bool {
+    let mut room = [0; 64];
+    match ran.intake.take(&mut room) {
+        Ok(n) => room.get(..n) == Some(text.as_bytes()),
+        Err(_) => false,
+    }
 }
 
 /// Whether the input was refused with this text, and the other file is as it was.
