@@ -6,7 +6,7 @@ use Rattle.sst_num.specs.Reading.{handle_at}
 use Rattle.sst_key.specs.declared.entries.Entry.{Entry}
 use Rattle.sst_block.specs.declared.row_form.RowForm.TheVariants.{Index}
 use Rattle.sst_block.specs.Block.{Row, IsRow}
-use Rattle.sst_cli.specs.BlockBased.{Runs, Opens}
+use Rattle.sst_cli.specs.BlockBased.{rows_of, Runs, Opens}
 use Rattle.sst_cli.specs.Opening.{RowBlock, then_open, as_fault, block_at, footer_start, meta_read, led_to, runs_read, as_block, blocks_of_runs, rows_joined, index_read, index_blocks_read, open_read, blocks_read}
 use Rattle.sst_cli.specs.TableBlocks.{blocks_led, blocks_in, row_blocks_of}
 use Rattle.sst_cli.specs.declared.bbt_fault.BbtFault.{BbtFault}
@@ -94,3 +94,23 @@ open_read-blocks file =
 -- a fault of the one reading is that of the other
 pub open_read-fault_of : (file : List ℕ) (fault : BbtFault) → blocks_read file ≡ Err fault → open_read file ≡ Err fault
 open_read-fault_of file fault e = open_read-blocks file ∙ ap (λ r. then_open r (λ blocks. Ok (rows_joined blocks))) e
+
+-- ---- a file that opens, read as rows
+
+led-rows_joined : (file : List ℕ) (end : ℕ) (rows : List Row) (entries : List Entry) → Runs file end rows entries
+    → rows_joined (row_blocks_of (blocks_led rows entries)) ≡ rows_of entries
+led-rows_joined file end [] entries runs = ap rows_of (sym runs)
+led-rows_joined file end (row ∷ rest) entries runs = append-nil (rows_of entries)
+
+pub open_read-opens : (file : List ℕ) (entries : List Entry) → Opens file entries → open_read file ≡ Ok (rows_of entries)
+open_read-opens file entries o =
+    open_read-blocks file ∙ ap (λ r. then_open r (λ blocks. Ok (rows_joined blocks))) (blocks_read-opens file entries o)
+    ∙ ap Ok (led-rows_joined file o.end o.index_rows entries o.runs)
+
+pub open_read-found : (file : List ℕ) (rows : List Row) → open_read file ≡ Ok rows → (entries : List Entry) × (rows ≡ rows_of entries) × Opens file entries
+open_read-found file rows e =
+    then_open-ok (blocks_read file) (λ blocks. Ok (rows_joined blocks)) rows (sym (open_read-blocks file) ∙ e)
+    (λ blocks read last.
+    let f = blocks_read-found file blocks read in
+    let all : rows ≡ rows_joined blocks = cc in
+    (f.0, all ∙ ap rows_joined f.2 ∙ led-rows_joined file f.1.end f.1.index_rows f.0 f.1.runs, f.1))

@@ -23,7 +23,7 @@ use Rattle.sst_cli.proofs.BlocksRead.{RowsAt}
 use Rattle.sst_cli.proofs.FaultsShown.{open_read-fault}
 use Rattle.sst_cli.proofs.FramesRead.{frame_read-framed}
 use Rattle.sst_cli.proofs.Leads.{opens-leads}
-use Rattle.sst_cli.proofs.OpensRead.{open_read-found}
+use Rattle.sst_cli.proofs.BlocksOpened.{open_read-found}
 use Rattle.sst_cli.proofs.Reached.{ends-good, ends-with, no-other, names-at, index-at, bytes-once, rows-once, index-rows, data-at}
 
 -- the rows of the block at a handle that is reached

@@ -6,7 +6,7 @@ use Rattle.sst_key.specs.Entry.{IsOrdered}
 use Rattle.sst_block.specs.Block.{Row}
 use Rattle.sst_cli.specs.BlockBased.{HasSeq, rows_of, Runs, Opens, BlockBased}
 use Rattle.sst_cli.proofs.EntriesOfRows.{rows_of-one, entries-ordered}
-use Rattle.sst_cli.proofs.Opened.{open_read-opens}
+use Rattle.sst_cli.proofs.BlocksOpened.{open_read-opens}
 
 -- the entries that an index leads to
 runs-ordered : (file : List ℕ) (end : ℕ) (rows : List Row) (entries : List Entry) → Runs file end rows entries → IsOrdered entries × All HasSeq entries

@@ -1,5 +1,5 @@
 -- A file that opens reads as the rows of its entries.
-use Rattle.std.proofs.Common.{◌≡◌, ℕ, ◌^◌, ◌<◌, false, List, [], ◌∷◌, length, Some, Ok, refl, sym, ap, ◌∙◌, subst, arith}
+use Rattle.std.proofs.Common.{◌≡◌, ℕ, ◌^◌, ◌<◌, List, [], ◌∷◌, length, Some, Ok, refl, ap, ◌∙◌, subst, arith}
 use Rattle.std.proofs.lemmas.Bool.{lt-ltb}
 use Rattle.std.proofs.lemmas.List.{append-nil}
 use Rattle.sst_num.specs.Spelling.{handle_spelling}
@@ -7,15 +7,15 @@ use Rattle.sst_num.specs.Reading.{handle_at}
 use Rattle.sst_num.specs.declared.block_handle.Handle.{Handle}
 use Rattle.sst_num.proofs.Reading.{handle_at-handle}
 use Rattle.sst_key.specs.declared.entries.Entry.{Entry}
-use Rattle.sst_block.specs.declared.row_form.RowForm.TheVariants.{Entries, Names, Index}
+use Rattle.sst_block.specs.declared.row_form.RowForm.TheVariants.{Entries, Names}
 use Rattle.sst_block.specs.Block.{Row}
-use Rattle.sst_cli.specs.BlockBased.{rows_of, LeadsTo, Runs, Opens}
-use Rattle.sst_cli.specs.Opening.{then_open, without_names, names_read, footer_start, meta_read, with_rows, led_to, runs_read, index_read, open_read}
+use Rattle.sst_cli.specs.BlockBased.{rows_of, LeadsTo}
+use Rattle.sst_cli.specs.Opening.{then_open, without_names, names_read, footer_start, meta_read, with_rows, led_to}
 use Rattle.sst_cli.specs.declared.bbt_fault.BbtFault.TheVariants as bbt
 use Rattle.sst_cli.specs.declared.footer.Footer.{Footer}
 use Rattle.sst_cli.specs.declared.meta_fault.MetaFault.TheVariants as meta
 use Rattle.sst_cli.proofs.BlocksRead.{RowsAt, block_at-rows}
-use Rattle.sst_cli.proofs.Leads.{handle-fits, end-short, Leads, opens-start, opens-leads}
+use Rattle.sst_cli.proofs.Leads.{handle-fits, Leads}
 
 -- a handle that stands alone is read
 pub handle_at-alone : (h : Handle) → h.offset < 2 ^ 64 → h.size < 2 ^ 64 → handle_at (handle_spelling h) ≡ Some (h, length (handle_spelling h))
@@ -36,12 +36,6 @@ led_to-entries file end row entries short leads =
     let rows = block_at-rows bbt.Frame (bbt.Block leads.handle) Entries file end leads.handle (rows_of entries) tt at in
     ap (led_to file end) read ∙ ap (λ r. then_open r (with_rows leads.handle)) rows ∙ with_rows-some leads.handle entries leads.some
 
-runs_read-runs : (file : List ℕ) (end : ℕ) (rows : List Row) (entries : List Entry) → end < 2 ^ 40 → Runs file end rows entries
-    → runs_read file end rows ≡ Ok (rows_of entries)
-runs_read-runs file end [] entries short runs = ap (λ (l : List Entry). Ok (rows_of l)) (sym runs)
-runs_read-runs file end (row ∷ []) entries short runs = led_to-entries file end row entries short runs
-runs_read-runs file end (row ∷ next ∷ rest) entries short runs = absurd runs
-
 pub meta_read-leads : (file : List ℕ) (metaindex index : Handle) → Leads file metaindex index → meta_read file ≡ Ok index
 unfolding meta_read
 meta_read-leads file metaindex index l =
@@ -49,15 +43,3 @@ meta_read-leads file metaindex index l =
     let names = block_at-rows meta.Frame (meta.Block metaindex) Names file (footer_start file) metaindex [] tt l.names in
     rw (lt-ltb (length file) (2 ^ 40) l.short)
     (ap (λ r. then_open r (names_read file (footer_start file))) l.read ∙ ap (λ r. then_open r (without_names footer)) names)
-
-pub open_read-opens : (file : List ℕ) (entries : List Entry) → Opens file entries → open_read file ≡ Ok (rows_of entries)
-unfolding open_read
-open_read-opens file entries o =
-    let start = opens-start file entries o in
-    let short = end-short file o.end o.metaindex o.index o.meta in
-    let meta_is = meta_read-leads file o.metaindex o.index (opens-leads file entries o) in
-    let at : RowsAt (Index false false) file o.end o.index o.index_rows = record { bytes = o.index_block; framed = o.framed; block = o.index_is } in
-    let rows = block_at-rows bbt.Frame (bbt.Block o.index) (Index false false) file o.end o.index o.index_rows tt at in
-    let whole : index_read file o.end o.index ≡ Ok (rows_of entries) =
-    ap (λ r. then_open r (runs_read file o.end)) rows ∙ runs_read-runs file o.end o.index_rows entries short o.runs in
-    rw meta_is (ap (λ e. index_read file e o.index) (sym start) ∙ whole)

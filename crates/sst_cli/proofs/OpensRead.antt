@@ -1,17 +1,16 @@
 -- A file that reads as rows opens to entries that have them.
-use Rattle.std.proofs.Common.{◌≡◌, ℕ, ◌^◌, ◌<◌, false, List, [], ◌∷◌, length, All, nat_lt, Some, Ok, refl, sym, ap, ◌∙◌, subst, arith}
+use Rattle.std.proofs.Common.{◌≡◌, ℕ, ◌^◌, ◌<◌, false, List, [], ◌∷◌, length, nat_lt, Some, Ok, refl, sym, ap, ◌∙◌, subst, arith}
 use Rattle.std.proofs.lemmas.Bool.{ltb-true}
 use Rattle.std.proofs.lemmas.List.{length-map}
-use Rattle.std.proofs.lemmas.List.Elements.{All-head}
 use Rattle.sst_num.specs.Spelling.{handle_spelling}
 use Rattle.sst_num.specs.Reading.{handle_at}
 use Rattle.sst_num.specs.declared.block_handle.Handle.{Handle}
 use Rattle.sst_key.specs.declared.entries.Entry.{Entry}
 use Rattle.sst_block.specs.declared.row_form.RowForm.TheVariants.{Entries, Names, Index}
-use Rattle.sst_block.specs.Block.{Row, Block, IsRow, IsHandle}
+use Rattle.sst_block.specs.Block.{Row, Block, IsHandle}
 use Rattle.sst_cli.specs.BlockBased.{row_of, rows_of, LeadsTo, Runs, Opens}
 use Rattle.sst_cli.specs.FooterReading.{last_bytes, footer_read}
-use Rattle.sst_cli.specs.Opening.{then_open, as_fault, block_at, without_names, names_read, footer_start, meta_read, with_rows, data_read, led_to, runs_read, open_read}
+use Rattle.sst_cli.specs.Opening.{then_open, block_at, without_names, names_read, footer_start, meta_read, with_rows, data_read, led_to}
 use Rattle.sst_cli.specs.declared.bbt_fault.BbtFault.TheVariants as bbt
 use Rattle.sst_cli.specs.declared.footer.Footer.{Footer}
 use Rattle.sst_cli.specs.declared.meta_fault.MetaFault.TheVariants as meta
@@ -20,7 +19,7 @@ use Rattle.sst_cli.proofs.EntriesOfRows.{EntriesOf, entries-of_rows}
 use Rattle.sst_cli.proofs.FooterLaws.{leads-read}
 use Rattle.sst_cli.proofs.Leads.{Leads, leads-meta}
 use Rattle.sst_cli.proofs.Opened.{handle_at-alone}
-use Rattle.sst_cli.proofs.ReadSteps.{by_test, then_open-ok, as_fault-ok}
+use Rattle.sst_cli.proofs.ReadSteps.{by_test, then_open-ok}
 
 -- a metaindex that is passed has no row
 without_names-ok : (footer : Footer) (rows : List Row) (index : Handle) → without_names footer rows ≡ Ok index → (rows ≡ []) × (footer.index ≡ index)
@@ -90,12 +89,6 @@ led_to-found file end row rows is e =
     let made = entries-of_rows inner at.block.forms in
     record { entries = made.entries; are = sym parts.0 ∙ made.are; runs = leads-of file end row h inner made handle.1 parts.1 at })
 
-runs_read-found : (file : List ℕ) (end : ℕ) (index_rows rows : List Row) → All (IsRow (Index false false)) index_rows → runs_read file end index_rows ≡ Ok rows
-    → Found file end index_rows rows
-runs_read-found file end [] rows forms e = record { entries = []; are = cc; runs = refl }
-runs_read-found file end (row ∷ []) rows forms e = led_to-found file end row rows (All-head (IsRow (Index false false)) row [] forms).1.1 e
-runs_read-found file end (row ∷ next ∷ rest) rows forms e = cc
-
 -- the whole file, from the parts that were found
 abbrev pub opens-from : (file : List ℕ) (metaindex index : Handle) (index_rows rows : List Row) → Leads file metaindex index
     → RowsAt (Index false false) file (footer_start file) index index_rows → (f : Found file (footer_start file) index_rows rows) → Opens file f.entries
@@ -110,14 +103,3 @@ opens-from file metaindex index index_rows rows l at f = record {
   index_is = at.block;
   runs = f.runs;
 }
-
-pub open_read-found : (file : List ℕ) (rows : List Row) → open_read file ≡ Ok rows → (entries : List Entry) × (rows ≡ rows_of entries) × Opens file entries
-unfolding open_read
-open_read-found file rows e =
-    then_open-ok (as_fault bbt.Meta (meta_read file)) _ rows e
-    (λ index first e. then_open-ok (block_at bbt.Frame (bbt.Block index) (Index false false) file (footer_start file) index) _ rows e
-    (λ index_rows found last.
-    let leads = meta_read-found file index (as_fault-ok bbt.Meta (meta_read file) index first) in
-    let at = block_at-found bbt.Frame (bbt.Block index) (Index false false) file (footer_start file) index index_rows tt found in
-    let f = runs_read-found file (footer_start file) index_rows rows at.block.forms last in
-    (f.entries, f.are, opens-from file leads.0 index index_rows rows leads.1 at f)))

@@ -1,5 +1,5 @@
-use Rattle.sst_cli.proofs.Opened.{open_read-opens}
-use Rattle.sst_cli.proofs.OpensRead.{open_read-found}
+use Rattle.sst_cli.proofs.BlocksOpened.{open_read-opens}
+use Rattle.sst_cli.proofs.BlocksOpened.{open_read-found}
 use Rattle.sst_cli.proofs.opening_laws.a_file_opens_to_its_rows.Goals as goal
 
 pub returns-clause-complete : goal.returns-clause-complete
