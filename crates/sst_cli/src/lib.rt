@@ -14,15 +14,27 @@
 //!                           |                        | value-long, heavy             |
 //!                           v                        v                               v
 //! output <----------- input N REASON, or usage where the words are no command      wrote N
+//!
+//!               calls_name
+//! words ------------------------> name of FILE                file
+//!                                                               |  read_footer, draw_framed, check_block
+//!               LineReader          call_of_line                v
+//! input ----------------> lines ----------------> calls      entries, or the first thing that is wrong
+//!                           |                        |          |                        |
+//!                           | line-long, line, many  +----+-----+                        |
+//!                           v                             v                              v
+//! output <----------- input N REASON               a line for each call           damage FAULT
 //! ```
 //!
-//! - Words: there is one command, `write block OUT`. All others are Usage.
-//! - Lines: an input is a list of lines, and a line is an entry, `USER SEQ KIND VALUE`: the user key and the
-//!   value in hex digits or `-`, a decimal sequence number, and one of the letters D, P, M and S. Each line
-//!   ends with LF.
+//! - Words: there are two commands, `write block OUT` and `calls FILE`. All others are Usage.
+//! - Lines: an input is a list of lines, each ended by LF. An entry line is `USER SEQ KIND VALUE`: the user key and the
+//!   value in hex digits or `-`, a decimal sequence number, and one of the letters D, P, M and S. A call line is one of
+//!   `get USER SEQ`, `first`, `last`, `seek USER SEQ`, `seek_for_prev USER SEQ`, `next` and `prev`.
 //! - Entries: each is after the one before and within the limits, as the writer has them. The first line that
 //!   isn't so ends the run, and its number and its first reason are printed.
 //! - File: all of a list that fits, the empty one too, in one block-based file.
+//! - Calls: at most 1,048,576, all read and checked before FILE is opened. A line is printed for each: the entry that
+//!   is shown, `none`, or `not-positioned`.
 //!
 //! # An example
 //!
@@ -46,8 +58,11 @@
 //! 107  02 00 00 00 f7 cf f4 85 b7 41 e2 88         the version and the magic number
 //! ```
 //!
-//! RocksDB: the wiki page "Rocksdb BlockBasedTable Format"; table/block_based/block_based_table_builder.cc
-//! and table/format.cc. The words and the lines are this project's own.
+//! `calls OUT` with the lines `get 61 1`, `get 61 0`, `first` and `next` prints `61 1 P 78`, `none`, `61 1 P 78` and
+//! `none`.
+//!
+//! RocksDB: the wiki page "Rocksdb BlockBasedTable Format"; table/block_based/block_based_table_builder.cc,
+//! table/block_based/block_based_table_reader.cc and table/format.cc. The words and the lines are this project's own.
 //!
 //! # What is promised
 //!
@@ -55,36 +70,29 @@
 //!   specs/EntryText.antt), OUT holds what is `Written` for it, `wrote N` is printed, and the input is read
 //!   to its end; but for a fault of the outside and for want of memory. The same holds of each text that says
 //!   a list (`read_input`, specs/Reading.antt).
-//! - For each other text the first refusal is printed, a line and a reason, but for the same.
-//! - What is `Written` for a list stands for it ([`written_file_stands_for_its_list`]), an entry's line reads
-//!   back as the entry ([`an_entry_line_reads_back`]), and a list's text as the list ([`a_list_reads_back`]).
+//! - On each file that stands for a list (`BlockBased`, specs/BlockBased.antt), each list of calls, given as its lines
+//!   (`calls_text`, specs/CallText.antt), is answered as the list answers (`answer_of`, sst_key); but for the same. On a
+//!   file that opens, but whose separator is before a key of its block, Get, Seek and SeekForPrev go by the index, as
+//!   RocksDB does (`way_answer`, specs/Way.antt). Where the separators separate, the two ways are one
+//!   ([`the_way_is_the_lists`], [`a_file_that_stands_is_separated`]).
+//! - On each other file the first thing that is wrong is printed (`open_read`, specs/Opening.antt), and the file shows it
+//!   (`Shows`, specs/Shows.antt).
+//! - For each other input the first refusal is printed, a line and a reason; of `calls` whatever the file is.
+//! - What is `Written` for a list stands for it ([`written_file_stands_for_its_list`]). An entry's line reads
+//!   back as the entry ([`an_entry_line_reads_back`]), a list's text as the list ([`a_list_reads_back`]), and the same of
+//!   calls ([`a_call_line_reads_back`], [`a_call_list_reads_back`]).
 //! - A file opens to a list exactly where it reads as its rows ([`a_file_opens_to_its_rows`]), stands for one
 //!   list at most ([`a_file_stands_for_one_list`]), and, if it is of bytes, shows a fault exactly where it opens
 //!   to none ([`a_file_that_opens_shows_no_fault`]).
-//! - On a file that stands for a list (`BlockBased`, specs/BlockBased.antt) `calls FILE` answers as the list does. On one
-//!   that opens, but whose separator is before a key of its block, it goes by the index, as RocksDB does (`way_answer`,
-//!   specs/Way.antt). Where the separators separate, the two ways are one ([`the_way_is_the_lists`],
-//!   [`a_file_that_stands_is_separated`]).
-//! - Device is answered only with a counted fault. No file but OUT changes.
-//! - A reader opens a file to the entries that its bytes say, or answers the first thing that is wrong
-//!   (`open_read`, specs/Opening.antt).
-//!
-//! # Calls
-//!
-//! Call lines are read and checked ([`call_reading::read_calls`]), and the lines of replies are written
-//! ([`reply_line::put_reply_line`]). No command uses them yet. A call line is one of `get USER SEQ`, `first`, `last`,
-//! `seek USER SEQ`, `seek_for_prev USER SEQ`, `next` and `prev`, and ends with LF; USER is as above and has at most
-//! 65,536 bytes. An input has at most 1,048,576 of them: a line is refused as `line-long`, `line` or `many`. A call's
-//! line reads back as the call ([`a_call_line_reads_back`]), and the text of a list of calls as the list
-//! ([`a_call_list_reads_back`]).
+//! - Device is answered only with a counted fault, or where the folder tells that FILE isn't there. No file but OUT
+//!   changes.
 //!
 //! # For now
 //!
 //! A part whose crate comes later stands here, and moves unchanged: [`device`], which is the folder, input
-//! and output, and their forms in memory and on a real machine; stored blocks (`device::frame`); the footer
-//! (`footer`); the writer (`bbt_writer`, `table_parts`); and the reader ([`bbt_reader`]) with the lines for what is
-//! wrong with a file ([`fault_text`]), which no command uses yet. The whole file is made in memory, with one data block
-//! at most, and then added to OUT; a reader keeps all entries in memory.
+//! and output, and their forms in memory and on a real machine; stored blocks (`device::frame`); the footer and the
+//! metaindex (`footer`, `load`); the writer (`bbt_writer`, `table_parts`); and the reader (`bbt_reader`). The whole file
+//! is made in memory, with one data block at most, and then added to OUT; a reader keeps all entries in memory.
 #![tactic(auto)]
 
 mod answering;
