@@ -8,7 +8,7 @@ use Rattle.sst_block.specs.Block.{Row}
 use Rattle.sst_cli.specs.BlockBased.{HasSeq, rows_of}
 use Rattle.hex.specs.Hex.{IsBytes}
 use Rattle.sst_cli.specs.BlockBased.{Opens}
-use Rattle.sst_cli.specs.Folder.{Files}
+use Rattle.sst_device.specs.Folder.{Files}
 use Rattle.sst_cli.specs.Words.{out_name, calls_name}
 use Rattle.sst_cli.proofs.Opened.{open_read-opens}
 use Rattle.sst_cli.proofs.EntriesOfRows.{rows_of-one}

@@ -5,7 +5,7 @@ use Rattle.sst_key.specs.declared.entries.Entry.{Entry}
 use Rattle.sst_key.specs.declared.calls.Call.{Call}
 use Rattle.sst_block.specs.Block.{Row}
 use Rattle.sst_cli.specs.BlockBased.{HasSeq, rows_of}
-use Rattle.sst_cli.specs.Folder.{Files, file_of, misses}
+use Rattle.sst_device.specs.Folder.{Files, file_of, misses}
 use Rattle.sst_cli.specs.FaultText.{fault_text}
 use Rattle.sst_cli.specs.Opening.{open_read}
 use Rattle.sst_cli.specs.Reading.{read_calls}

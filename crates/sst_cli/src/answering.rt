@@ -3,14 +3,13 @@ ghost use Rattle.std.specs.Prelude.{◌≡◌, ℕ, ◌≤◌, List, [], ◌++�
 ghost use Rattle.std.specs.Io.KnownBytes.{append_known};
 ghost use Rattle.sst_key.specs.ListMachine.{answer_of, shows, get_of};
 ghost use Rattle.sst_key.specs.declared.calls.Format.TheVariants.{Block};
-ghost use Rattle.sst_cli.specs.Faults.{Rose};
+ghost use Rattle.sst_device.specs.Faults.{Rose};
 ghost use Rattle.sst_cli.specs.Replies.{answer_line, answers_text};
 ghost use Rattle.sst_cli.specs.Cursors.{Belongs, Comes, entry_shown, lent};
 
 use crate::bbt_reader::{BbtReader, Cursor};
-use crate::device::folder::DevStop;
-use crate::device::stream::{Sink, put_all};
 use crate::reply_line::put_reply_line;
+use sst_device::{DevStop, Sink, put_all};
 use sst_key::{Call, EntryView, Reply, Target};
 use sst_num::Memory;
 use std::alloc::Global;

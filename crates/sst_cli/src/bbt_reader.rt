@@ -1,23 +1,22 @@
 //! The reader of block-based files. A file is opened, or the first thing that is wrong with it is answered.
 ghost use Rattle.std.specs.Prelude.{◌≡◌, ◌≢◌, ℕ, ◌^◌, ◌≤◌, ◌⊎◌, false, List, length, Some, Err, IsTrue};
 ghost use Rattle.sst_block.specs.declared.row_form.RowForm.TheVariants.{Entries, Index};
-ghost use Rattle.sst_cli.specs.Folder.{file_of, misses};
-ghost use Rattle.sst_cli.specs.Faults.{Rose};
+ghost use Rattle.sst_device.specs.Folder.{file_of, misses};
+ghost use Rattle.sst_device.specs.Faults.{Rose};
 ghost use Rattle.sst_cli.specs.Opening.{then_open, with_rows, data_read, index_read, open_read};
-ghost use Rattle.sst_cli.specs.Reader.{Answers, Opened, stop_as, rows_checked, place_of, place_read};
+ghost use Rattle.sst_device.specs.Stops.{Answers, stop_as};
+ghost use Rattle.sst_cli.specs.Reader.{Opened, rows_checked, place_of, place_read};
 ghost use Rattle.sst_cli.specs.declared.bbt_fault.BbtFault.TheVariants as bbt;
 
 mod calls;
 
 use crate::bbt_fault::BbtFault;
 use crate::block_rows::{entries_of, first_handle};
-use crate::device::draw::draw_framed;
-use crate::device::folder::Folder;
-use crate::device::frame::FrameFault;
 use crate::load::{Loaded, load};
 use crate::meta_fault::MetaFault;
 pub use calls::Cursor;
 use sst_block::{RowForm, check_block};
+use sst_device::{Folder, FrameFault, draw_framed};
 use sst_key::Entry;
 use sst_num::{Handle, Memory, Refused, Stop};
 use std::alloc::Global;

@@ -9,7 +9,7 @@ use crate::worked_run::{
     run_with_stuck_sink, written,
 };
 use sst_cli::Status;
-use sst_cli::device::stream::Intake;
+use sst_device::Intake;
 use std::alloc::Global;
 use std::process::Abort;
 use std::test::Fail;

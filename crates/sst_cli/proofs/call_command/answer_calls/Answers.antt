@@ -1,6 +1,6 @@
 use Rattle.std.proofs.Common.{Ok, Err, refl, sym, inl, inr}
 use Rattle.sst_cli.specs.FaultText.{fault_text}
-use Rattle.sst_cli.specs.Folder.{file_of}
+use Rattle.sst_device.specs.Folder.{file_of}
 use Rattle.sst_cli.specs.BlockBased.{rows_of}
 use Rattle.sst_cli.specs.Replies.{answers_text}
 use Rattle.sst_cli.proofs.CallsPrinted.{file_text_is, some_answers_text}
