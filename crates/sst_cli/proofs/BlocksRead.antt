@@ -7,11 +7,11 @@ use Rattle.sst_block.specs.Block.{Row, Block}
 use Rattle.sst_block.specs.Builder.{HasNoFlags}
 use Rattle.sst_block.specs.Reading.{block_read}
 use Rattle.sst_block.proofs.BlockRead.{read-complete, read-sound}
-use Rattle.sst_cli.specs.Framed.{Framed}
-use Rattle.sst_cli.specs.FrameReading.{frame_read}
+use Rattle.sst_device.specs.Framed.{Framed}
+use Rattle.sst_device.specs.FrameReading.{frame_read}
 use Rattle.sst_cli.specs.Opening.{as_fault, block_at}
-use Rattle.sst_cli.specs.declared.device.frame.FrameFault.{FrameFault}
-use Rattle.sst_cli.proofs.FramesRead.{frame_read-framed, framed-read}
+use Rattle.sst_device.specs.declared.frame.FrameFault.{FrameFault}
+use Rattle.sst_device.proofs.FramesRead.{frame_read-framed, framed-read}
 use Rattle.sst_cli.proofs.ReadSteps.{then_open-ok, then_open-err, as_fault-ok, as_fault-err}
 
 -- the rows of the block that is framed at a handle

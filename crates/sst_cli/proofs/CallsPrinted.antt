@@ -7,7 +7,7 @@ use Rattle.sst_key.specs.declared.calls.Call.{Call}
 use Rattle.sst_cli.specs.BlockBased.{HasSeq, BlockBased}
 use Rattle.hex.specs.Hex.{IsBytes}
 use Rattle.sst_cli.specs.BlockBased.{Opens}
-use Rattle.sst_cli.specs.Folder.{Files}
+use Rattle.sst_device.specs.Folder.{Files}
 use Rattle.sst_cli.specs.Words.{out_name, calls_name}
 use Rattle.sst_cli.proofs.BlocksOpened.{blocks_read-opens, blocks_read-found, open_read-fault_of}
 use Rattle.sst_cli.proofs.Separated.{opens-seqs, row_blocks-one, stands-text}

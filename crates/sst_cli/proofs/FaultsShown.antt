@@ -17,7 +17,8 @@ use Rattle.sst_cli.specs.declared.meta_fault.MetaFault.TheVariants as meta
 use Rattle.sst_cli.proofs.BlocksRead.{RowsAt, block_at-found, block_at-fault}
 use Rattle.sst_cli.proofs.FooterLaws.{leads-read, footer_read-fault}
 use Rattle.sst_cli.proofs.OpensRead.{meta_read-found, handle-of_row}
-use Rattle.sst_cli.proofs.ReadSteps.{by_test, then_open-err, as_fault-ok, as_fault-err}
+use Rattle.sst_device.proofs.Choices.{by_test}
+use Rattle.sst_cli.proofs.ReadSteps.{then_open-err, as_fault-ok, as_fault-err}
 
 -- a metaindex with a row isn't read yet
 names-fault : (file : List ℕ) (footer : Footer) (rows : List Row) (fault : MetaFault) → FooterLeads file (footer_start file) footer.metaindex footer.index

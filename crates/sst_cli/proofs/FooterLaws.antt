@@ -13,7 +13,7 @@ use Rattle.sst_cli.specs.declared.footer.Footer.{Footer}
 use Rattle.sst_cli.specs.declared.meta_fault.MetaFault.{MetaFault}
 use Rattle.sst_cli.specs.declared.meta_fault.MetaFault.TheVariants.{NotTable, Version, ChecksumType, BadFooter, NotYet}
 use Rattle.sst_cli.proofs.FootersRead.{fields, legacy, other, none, end_reads, footer_read-ends}
-use Rattle.sst_cli.proofs.ReadSteps.{by_test}
+use Rattle.sst_device.proofs.Choices.{by_test}
 
 -- two handles are read from their spellings
 handles_read-spelled : (metaindex index : Handle) (between : List ℕ) → AreHandles metaindex index between

@@ -14,7 +14,7 @@ use Rattle.sst_cli.specs.declared.footer.Footer.{Footer}
 use Rattle.sst_cli.specs.declared.meta_fault.MetaFault.{MetaFault}
 use Rattle.sst_cli.specs.declared.meta_fault.MetaFault.TheVariants.{NotTable, Version, NotYet}
 use Rattle.sst_cli.proofs.FileEnds.{last_bytes-joined, last_bytes-twice, last_bytes-split, number_at_end, number_at_end-is, number_at_end-fixed, number_at_end-found, fixed_at-bytes, IsBytes-drop, cut_three}
-use Rattle.sst_cli.proofs.ReadSteps.{by_test}
+use Rattle.sst_device.proofs.Choices.{by_test}
 
 -- what a file that ends with a magic number is read by
 pub number-of_end : (file : List ℕ) (m n : ℕ) → m < 256 ^ 8 → 8 ≤ n → EndsWith m n file → number_at_end (last_bytes 53 file) ≡ Some m

@@ -4,7 +4,7 @@ use Rattle.sst_num.specs.Spelling.{handle_spelling}
 use Rattle.sst_num.specs.declared.block_handle.Handle.{Handle}
 use Rattle.sst_block.specs.declared.row_form.RowForm.TheVariants.{Names}
 use Rattle.sst_cli.specs.BlockBased.{Opens}
-use Rattle.sst_cli.specs.Framed.{Framed}
+use Rattle.sst_device.specs.Framed.{Framed}
 use Rattle.sst_cli.specs.FooterReading.{last_bytes, footer_read}
 use Rattle.sst_cli.specs.Meta.{footer_front, footer_back, Meta}
 use Rattle.sst_cli.specs.Opening.{footer_start}

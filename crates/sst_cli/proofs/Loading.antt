@@ -5,7 +5,8 @@ use Rattle.sst_num.specs.declared.stops.Stop.{Stop}
 use Rattle.sst_num.specs.declared.stops.Stop.TheVariants.{Damage, Device, Memory}
 use Rattle.sst_cli.specs.FooterReading.{footer_read, last_bytes}
 use Rattle.sst_cli.specs.Opening.{names_read, meta_read, footer_start}
-use Rattle.sst_cli.specs.Reader.{Answers, Loads}
+use Rattle.sst_device.specs.Stops.{Answers}
+use Rattle.sst_cli.specs.Reader.{Loads}
 use Rattle.sst_cli.specs.declared.footer.Footer.{Footer}
 use Rattle.sst_cli.specs.declared.meta_fault.MetaFault.{MetaFault}
 

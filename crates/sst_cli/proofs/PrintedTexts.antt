@@ -4,7 +4,7 @@ use Rattle.std.specs.Io.KnownBytes.{append_known}
 use Rattle.std.proofs.lemmas.List.{append-nil}
 use Rattle.sst_key.specs.declared.entries.Entry.{Entry}
 use Rattle.sst_cli.specs.Reading.{read_input}
-use Rattle.sst_cli.specs.Folder.{Files}
+use Rattle.sst_device.specs.Folder.{Files}
 use Rattle.sst_cli.specs.Refusals.{refusal_text}
 use Rattle.sst_cli.specs.Run.{IsWriteText, IsFault, HoldsWritten, Wrote, text_for, done_text}
 use Rattle.sst_cli.specs.Printed.{IsPrinted, Prints}

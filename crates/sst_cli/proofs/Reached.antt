@@ -10,7 +10,7 @@ use Rattle.sst_block.specs.declared.row_form.RowForm.TheVariants.{Entries, Names
 use Rattle.sst_block.specs.Block.{Row, Block}
 use Rattle.sst_block.proofs.OneReading.{one-list}
 use Rattle.sst_cli.specs.BlockBased.{rows_of, Runs, Opens}
-use Rattle.sst_cli.specs.Framed.{Framed}
+use Rattle.sst_device.specs.Framed.{Framed}
 use Rattle.sst_cli.specs.Meta.{block_based_magic}
 use Rattle.sst_cli.specs.Opening.{footer_start}
 use Rattle.sst_cli.specs.Shows.{EndsWith, EndsIn, AreHandles, IsBuilt, FooterLeads, HasIndex, IndexLeads}
@@ -18,7 +18,7 @@ use Rattle.sst_cli.specs.declared.footer.Footer.{Footer}
 use Rattle.sst_cli.proofs.BlocksRead.{RowsAt}
 use Rattle.sst_cli.proofs.FootersRead.{number-of_end, footer_read-ends}
 use Rattle.sst_cli.proofs.FooterLaws.{by_version-cases, handles_read-found, footer_read-leads}
-use Rattle.sst_cli.proofs.FramesRead.{frame_read-framed}
+use Rattle.sst_device.proofs.FramesRead.{frame_read-framed}
 use Rattle.sst_cli.proofs.HandlesOnce.{handle-once}
 use Rattle.sst_cli.proofs.Leads.{Leads, opens-start, opens-leads}
 

@@ -1,11 +1,6 @@
 -- What the steps of a reading tell: of a test, of a step after another, and of a fault under another name.
-use Rattle.std.proofs.Common.{◌≡◌, Bool, true, false, cond, Result, Ok, Err, refl}
+use Rattle.std.proofs.Common.{◌≡◌, Result, Ok, Err, refl}
 use Rattle.sst_cli.specs.Opening.{then_open, as_fault}
-
--- by cases on a test
-pub by_test : {A P : Type 0} (t : Bool) (x y z : A) → cond t x y ≡ z → (t ≡ true → x ≡ z → P) → (t ≡ false → y ≡ z → P) → P
-by_test true x y z e when other = when refl e
-by_test false x y z e when other = other refl e
 
 -- a step that gives something came after one that did
 pub then_open-ok : {A B F P : Type 0} (r : Result A F) (next : A → Result B F) (y : B) → then_open r next ≡ Ok y

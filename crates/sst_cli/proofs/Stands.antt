@@ -15,12 +15,12 @@ use Rattle.sst_block.specs.Block.{Row, Block, IsRow}
 use Rattle.sst_block.specs.Builder.{last_key, row_room}
 use Rattle.sst_block.proofs.BlockLaws.{block_of_is_block}
 use Rattle.sst_block.proofs.Size.{block_of-le}
-use Rattle.sst_cli.specs.Framed.{Framed, frame_of, trailer_of}
+use Rattle.sst_device.specs.Framed.{Framed, frame_of, trailer_of}
 use Rattle.sst_cli.specs.Meta.{Meta, footer_front, footer_back, footer_of}
 use Rattle.sst_cli.specs.BlockBased.{rows_of, HasSeq, Runs, AreSeparated, BlockBased}
 use Rattle.sst_cli.specs.Written.{Fits, IsInLimits, data_block, data_handle, data_part, index_rows, index_block, index_handle, metaindex_block, metaindex_handle, table_of, Written}
 use Rattle.sst_cli.proofs.Footers.{length-handle, length-footer_front}
-use Rattle.sst_cli.proofs.Frames.{frame-framed}
+use Rattle.sst_device.proofs.Frames.{frame-framed}
 use Rattle.sst_cli.proofs.Rows.{last_key-of_some, rows_of-forms, rows_of-ordered, rows_of-short}
 
 -- a key isn't after itself

@@ -1,7 +1,7 @@
 -- Which stop a call passed on.
 use Rattle.std.proofs.Common.{◌≡◌, ℕ, Result, Err, sym, ap, ◌∙◌}
-use Rattle.sst_cli.specs.declared.device.folder.DevStop.{DevStop}
-use Rattle.sst_cli.specs.declared.device.folder.DevStop.TheVariants.{Failed}
+use Rattle.sst_device.specs.declared.folder.DevStop.{DevStop}
+use Rattle.sst_device.specs.declared.folder.DevStop.TheVariants.{Failed}
 use Rattle.sst_cli.specs.declared.reading.InputStop.{InputStop}
 use Rattle.sst_cli.specs.declared.reading.InputStop.TheVariants.{Device}
 

@@ -11,7 +11,7 @@ use Rattle.sst_key.specs.InternalKey.{internal_cmp}
 use Rattle.sst_block.specs.declared.row_form.RowForm.TheVariants.{Entries, Index}
 use Rattle.sst_block.specs.Block.{Row, Block}
 use Rattle.sst_block.specs.Builder.{last_key}
-use Rattle.sst_cli.specs.Framed.{Framed}
+use Rattle.sst_device.specs.Framed.{Framed}
 use Rattle.sst_cli.specs.Meta.{Meta}
 
 -- the sequence number is in range

@@ -6,7 +6,7 @@ use Rattle.sst_num.specs.Spelling.{fixed, handle_spelling}
 use Rattle.sst_num.specs.declared.block_handle.Handle.{Handle}
 use Rattle.sst_block.specs.declared.row_form.RowForm.TheVariants.{Names}
 use Rattle.sst_block.specs.Block.{Block}
-use Rattle.sst_cli.specs.Framed.{Framed}
+use Rattle.sst_device.specs.Framed.{Framed}
 
 -- the number that ends each block-based file
 abbrev pub block_based_magic : ℕ

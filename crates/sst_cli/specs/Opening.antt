@@ -10,9 +10,9 @@ use Rattle.sst_block.specs.declared.row_form.RowForm.TheVariants.{Entries, Names
 use Rattle.sst_block.specs.declared.fault.BlockFault.{BlockFault}
 use Rattle.sst_block.specs.Block.{Row, Spelled}
 use Rattle.sst_block.specs.Reading.{block_read}
-use Rattle.sst_cli.specs.FrameReading.{frame_read}
+use Rattle.sst_device.specs.FrameReading.{frame_read}
 use Rattle.sst_cli.specs.FooterReading.{footer_read, last_bytes}
-use Rattle.sst_cli.specs.declared.device.frame.FrameFault.{FrameFault}
+use Rattle.sst_device.specs.declared.frame.FrameFault.{FrameFault}
 use Rattle.sst_cli.specs.declared.footer.Footer.{Footer}
 use Rattle.sst_cli.specs.declared.meta_fault.MetaFault.{MetaFault}
 use Rattle.sst_cli.specs.declared.meta_fault.MetaFault.TheVariants as meta

@@ -1,7 +1,7 @@
 -- What printing a text comes to.
 use Rattle.std.specs.Prelude.{◌≡◌, ◌⊎◌, ℕ, List, take, Option}
 use Rattle.std.specs.Io.KnownBytes.{append_known}
-use Rattle.sst_cli.specs.Faults.{Rose}
+use Rattle.sst_device.specs.Faults.{Rose}
 use Rattle.sst_cli.specs.Run.{IsFault}
 use Rattle.sst_cli.specs.declared.program.Status.{Status}
 use Rattle.sst_cli.specs.declared.program.Status.TheVariants.{Device}

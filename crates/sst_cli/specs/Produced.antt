@@ -1,7 +1,7 @@
 -- What producing a file comes to.
 use Rattle.std.specs.Prelude.{◌≡◌, ℕ, List, [], length, Option, Some, Ok}
 use Rattle.sst_key.specs.declared.entries.Entry.{Entry}
-use Rattle.sst_cli.specs.Folder.{Files}
+use Rattle.sst_device.specs.Folder.{Files}
 use Rattle.sst_cli.specs.Reading.{read_input}
 use Rattle.sst_cli.specs.Run.{HoldsWritten}
 

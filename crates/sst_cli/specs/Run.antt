@@ -4,7 +4,7 @@ use Rattle.std.specs.Prelude.{◌≡◌, ◌⊎◌, ℕ, List, [], ◌++◌, cod
 use Rattle.std.specs.Fmt.{decimal}
 use Rattle.std.specs.Io.KnownBytes.{append_known}
 use Rattle.sst_key.specs.declared.entries.Entry.{Entry}
-use Rattle.sst_cli.specs.Folder.{Files, put_file}
+use Rattle.sst_device.specs.Folder.{Files, put_file}
 use Rattle.sst_cli.specs.Reading.{read_input}
 use Rattle.sst_cli.specs.Refusals.{refusal_text}
 use Rattle.sst_cli.specs.Written.{Written}

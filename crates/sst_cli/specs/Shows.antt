@@ -9,11 +9,11 @@ use Rattle.sst_block.specs.declared.row_form.RowForm.TheVariants.{Entries, Names
 use Rattle.sst_block.specs.declared.fault.BlockFault.{BlockFault}
 use Rattle.sst_block.specs.Block.{Row, Block}
 use Rattle.sst_block.specs.Reading.{block_read}
-use Rattle.sst_cli.specs.Framed.{Framed}
+use Rattle.sst_device.specs.Framed.{Framed}
 use Rattle.sst_cli.specs.Meta.{block_based_magic, footer_back}
-use Rattle.sst_cli.specs.FrameReading.{frame_read}
+use Rattle.sst_device.specs.FrameReading.{frame_read}
 use Rattle.sst_cli.specs.FooterReading.{legacy_block_based_magic, plain_magic, legacy_plain_magic, cuckoo_magic}
-use Rattle.sst_cli.specs.declared.device.frame.FrameFault.{FrameFault}
+use Rattle.sst_device.specs.declared.frame.FrameFault.{FrameFault}
 use Rattle.sst_cli.specs.declared.meta_fault.MetaFault.{MetaFault}
 use Rattle.sst_cli.specs.declared.meta_fault.MetaFault.TheVariants as meta
 use Rattle.sst_cli.specs.declared.bbt_fault.BbtFault.{BbtFault}

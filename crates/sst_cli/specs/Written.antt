@@ -10,7 +10,7 @@ use Rattle.sst_key.specs.Entry.{IsOrdered, weight}
 use Rattle.sst_block.specs.Block.{Row}
 use Rattle.sst_block.specs.Builder.{last_key}
 use Rattle.sst_block.specs.Chosen.{block_of}
-use Rattle.sst_cli.specs.Framed.{frame_of}
+use Rattle.sst_device.specs.Framed.{frame_of}
 use Rattle.sst_cli.specs.Meta.{footer_of}
 use Rattle.sst_cli.specs.BlockBased.{rows_of, BlockBased}
 

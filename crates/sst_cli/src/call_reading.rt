@@ -7,16 +7,15 @@ ghost use Rattle.sst_key.specs.declared.calls.Call.{Call};
 ghost use Rattle.sst_cli.specs.CallText.{IsInLimits, AreInLimits};
 ghost use Rattle.sst_cli.specs.Reading as reading;
 ghost use Rattle.sst_cli.specs.ReadingResult.{IsRefused};
-ghost use Rattle.sst_cli.specs.Faults.{Rose};
+ghost use Rattle.sst_device.specs.Faults.{Rose};
 ghost use Rattle.sst_cli.specs.declared.refusal.Refusal.{Refusal};
 
 use crate::call_line::call_of_line;
 use crate::call_list::Calls;
-use crate::device::folder::DevStop;
-use crate::device::stream::Intake;
 use crate::lines::LineReader;
 use crate::reading::{InputStop, next_line, refused};
 use crate::refusal::Reason;
+use sst_device::{DevStop, Intake};
 use sst_key::Call;
 use std::alloc::Global;
 

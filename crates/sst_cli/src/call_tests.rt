@@ -3,11 +3,10 @@ ghost use Rattle.std.specs.Prelude.{◌≤◌};
 
 use crate::call_line::{call_name, call_of_line};
 use crate::call_reading::read_calls;
-use crate::device::folder::DevStop;
-use crate::device::memory::MemIntake;
 use crate::reading::InputStop;
 use crate::refusal::{Reason, Refusal};
 use crate::reply_line::put_reply_line;
+use sst_device::{DevStop, MemIntake};
 use sst_key::{Call, EntryView, Kind, Reply, Target};
 use sst_num::{Bytes, Memory};
 use std::alloc::Global;

@@ -5,18 +5,25 @@ ghost use Rattle.sst_cli.specs.FaultText.{frame_fault_text, block_fault_text, me
 ghost use Rattle.sst_cli.specs.FaultText as texts;
 
 use crate::bbt_fault::BbtFault;
-use crate::device::frame::FrameFault;
 use crate::meta_fault::MetaFault;
 use sst_block::BlockFault;
+use sst_device::FrameFault;
 use sst_num::{Handle, Memory};
 use std::alloc::Global;
 use std::fmt;
 
-impl fmt::Display for FrameFault {
-    ghost output = { λ fault. Some (frame_fault_text fault) };
+/// What is wrong with how a block is stored.
+#[derive(Clone, Copy)]
+struct FrameDamage {
+    /// What is wrong, with the handle of the block.
+    fault: FrameFault,
+}
+
+impl fmt::Display for FrameDamage {
+    ghost output = { λ damage. Some (frame_fault_text damage.fault) };
 
     fn fmt<W: fmt::Write>(&self, f: &mut fmt::Formatter<W>) -> fmt::Result {
-        match self {
+        match self.fault {
             FrameFault::OutOfFile(h) => write!(f, "out-of-file {} {}", h.offset, h.size),
             FrameFault::TooLarge(h) => write!(f, "too-large {} {}", h.offset, h.size),
             FrameFault::Checksum(h) => write!(f, "checksum {} {}", h.offset, h.size),
@@ -25,6 +32,13 @@ impl fmt::Display for FrameFault {
             }
         }
     }
+}
+
+/// What is wrong with how the block is stored.
+fn stored(fault: FrameFault) -> FrameDamage
+    ensures { result.fault ≡ fault }
+{
+    FrameDamage { fault }
 }
 
 /// What is wrong within a block, with where the block stands.
@@ -74,7 +88,7 @@ impl fmt::Display for MetaFault {
             MetaFault::ChecksumType(kind) => write!(f, "checksum-type {kind}"),
             MetaFault::BadFooter => f.write_str("footer"),
             MetaFault::FileLong => f.write_str("file-long"),
-            MetaFault::Frame(fault) => write!(f, "{fault}"),
+            MetaFault::Frame(fault) => write!(f, "{}", stored(*fault)),
             MetaFault::Block(handle, fault) => write!(f, "{}", within(*handle, *fault)),
             MetaFault::NotYet => f.write_str("not-yet"),
         }
@@ -87,7 +101,7 @@ impl fmt::Display for BbtFault {
     fn fmt<W: fmt::Write>(&self, f: &mut fmt::Formatter<W>) -> fmt::Result {
         match self {
             BbtFault::Meta(fault) => write!(f, "{fault}"),
-            BbtFault::Frame(fault) => write!(f, "{fault}"),
+            BbtFault::Frame(fault) => write!(f, "{}", stored(*fault)),
             BbtFault::Block(handle, fault) => write!(f, "{}", within(*handle, *fault)),
             BbtFault::EmptyBlock(h) => write!(f, "empty-block {} {}", h.offset, h.size),
         }

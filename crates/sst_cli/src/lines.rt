@@ -3,13 +3,12 @@
 //! Each byte is taken once, searched for a line end once, and moved to the front at most once.
 ghost use Rattle.std.specs.Prelude.{◌≡◌, ℕ, ◌+◌, ◌<◌, ◌≤◌, ◌^◌, List, ◌++◌, [], length, vec_len, take, drop, Option, None, Some, IfOk, OnErr};
 ghost use Rattle.std.specs.Io.KnownBytes.{prepend_known};
-ghost use Rattle.sst_cli.specs.Faults.{Rose};
+ghost use Rattle.sst_device.specs.Faults.{Rose};
 ghost use Rattle.sst_cli.specs.Texts.{cut};
 ghost use Rattle.sst_cli.specs.Lines.{IsRead, IsFound};
 
 use crate::cuts::first_place;
-use crate::device::folder::{DevStop, Failed};
-use crate::device::stream::Intake;
+use sst_device::{DevStop, Failed, Intake};
 use std::alloc::Global;
 use std::marker::Model;
 

@@ -1,20 +1,19 @@
 //! The end of a block-based file: its length, its footer, and the metaindex that the footer leads to.
 ghost use Rattle.std.specs.Prelude.{◌≡◌, ◌≢◌, ℕ, ◌-◌, ◌≤◌, ◌^◌, ◌⊎◌, List, length, Some, Err, IsTrue, IfOk};
 ghost use Rattle.sst_block.specs.declared.row_form.RowForm.TheVariants.{Names};
-ghost use Rattle.sst_cli.specs.Folder.{file_of, misses};
-ghost use Rattle.sst_cli.specs.Faults.{Rose};
+ghost use Rattle.sst_device.specs.Folder.{file_of, misses};
+ghost use Rattle.sst_device.specs.Faults.{Rose};
 ghost use Rattle.sst_cli.specs.FooterReading.{last_bytes};
 ghost use Rattle.sst_cli.specs.Opening as opening;
 ghost use Rattle.sst_cli.specs.Opening.{then_open, names_read};
-ghost use Rattle.sst_cli.specs.Reader.{Answers, Loads, stop_as, rows_checked};
+ghost use Rattle.sst_device.specs.Stops.{Answers, stop_as};
+ghost use Rattle.sst_cli.specs.Reader.{Loads, rows_checked};
 ghost use Rattle.sst_cli.specs.declared.meta_fault.MetaFault.TheVariants as meta;
 
-use crate::device::draw::{draw, draw_framed};
-use crate::device::folder::{DevStop, Folder};
-use crate::device::frame::FrameFault;
 use crate::footer::{Footer, read_footer};
 use crate::meta_fault::MetaFault;
 use sst_block::{RowForm, check_block};
+use sst_device::{DevStop, Folder, FrameFault, draw, draw_framed};
 use sst_num::{Bytes, Handle, Refused, Stop};
 use std::alloc::Global;
 

@@ -1,5 +1,5 @@
-use crate::device::frame::FrameFault;
 use sst_block::BlockFault;
+use sst_device::FrameFault;
 use sst_num::Handle;
 
 /// What is wrong with the end of a file: its footer, and the metaindex that the footer leads to.

@@ -1,46 +1,17 @@
 //! What a file reads as is what it stands for.
 ghost use Rattle.std.specs.Prelude.{◌≡◌, ◌⊎◌, ℕ, ◌-◌, List, length, All, Ok, Err};
 ghost use Rattle.hex.specs.Hex.{IsBytes};
-ghost use Rattle.sst_num.specs.declared.block_handle.Handle.{Handle};
 ghost use Rattle.sst_key.specs.declared.entries.Entry.{Entry};
 ghost use Rattle.sst_key.specs.Entry.{IsOrdered};
 ghost use Rattle.sst_block.specs.Block.{Row};
-ghost use Rattle.sst_cli.specs.Framed.{Framed};
 ghost use Rattle.sst_cli.specs.BlockBased.{BlockBased, HasSeq, Opens, rows_of};
 ghost use Rattle.sst_cli.specs.Written.{Fits, table_of};
-ghost use Rattle.sst_cli.specs.FrameReading.{frame_read};
-ghost use Rattle.sst_cli.specs.FrameFaults.{IsFrameFault};
 ghost use Rattle.sst_cli.specs.FooterReading.{footer_read, last_bytes};
 ghost use Rattle.sst_cli.specs.Opening.{open_read};
 ghost use Rattle.sst_cli.specs.Shows.{FooterLeads, Shows, ShowsMeta};
-ghost use Rattle.sst_cli.specs.declared.device.frame.FrameFault.{FrameFault};
 ghost use Rattle.sst_cli.specs.declared.footer.Footer.{Footer};
 ghost use Rattle.sst_cli.specs.declared.meta_fault.MetaFault.{MetaFault};
 ghost use Rattle.sst_cli.specs.declared.bbt_fault.BbtFault.{BbtFault};
-
-/// What is read at a block handle is exactly the block that is stored there.
-///
-/// `end` is the file's length without its footer, but this holds of any number. `complete`: a block that is stored at
-/// the handle is read. `sound`: what is read is stored there.
-/// RocksDB: `BlockFetcher::ReadBlockContents` in table/block_fetcher.cc.
-pub fn a_stored_block_is_read()
-    ensures complete { (file : List ℕ) (end : ℕ) (h : Handle) (block : List ℕ) → Framed file end h block
-        → frame_read file end h ≡ Ok block }
-    ensures sound { (file : List ℕ) (end : ℕ) (h : Handle) (block : List ℕ) → frame_read file end h ≡ Ok block
-        → Framed file end h block }
-{}
-
-/// The fault that is read at a block handle is exactly the first thing that is wrong there.
-///
-/// In this order: the block or its trailer passes the end, the block is too large, its checksum is another, it is
-/// compressed. `complete`: what is first wrong is read. `sound`: the fault that is read is first wrong.
-/// RocksDB: `BlockFetcher::ReadBlockContents` in table/block_fetcher.cc.
-pub fn a_frame_fault_is_the_first()
-    ensures complete { (file : List ℕ) (end : ℕ) (h : Handle) (fault : FrameFault) → IsFrameFault file end h fault
-        → frame_read file end h ≡ Err fault }
-    ensures sound { (file : List ℕ) (end : ℕ) (h : Handle) (fault : FrameFault) → frame_read file end h ≡ Err fault
-        → IsFrameFault file end h fault }
-{}
 
 /// What the last 53 bytes of a file read as is what its footer says, or a fault that the file shows.
 ///

@@ -4,10 +4,9 @@ ghost use Rattle.sst_cli.specs.Refusals.{refusal_text};
 ghost use Rattle.sst_cli.specs.Run.{IsFault};
 ghost use Rattle.sst_cli.specs.Printed.{IsPrinted};
 
-use crate::device::folder::DevStop;
-use crate::device::stream::{Sink, put_all};
 use crate::program::Status;
 use crate::refusal::{Refusal, refusal_line};
+use sst_device::{DevStop, Sink, put_all};
 use sst_num::Memory;
 use std::alloc::Global;
 

@@ -2,16 +2,15 @@
 //!
 //! For now the whole file is made in memory first.
 ghost use Rattle.std.specs.Prelude.{◌≡◌, ◌⊎◌, ℕ, ◌≤◌, List, [], Option, Some, Ok, Err, IfOk};
-ghost use Rattle.sst_cli.specs.Faults.{Rose};
+ghost use Rattle.sst_device.specs.Faults.{Rose};
 ghost use Rattle.sst_cli.specs.Reading.{read_input};
 ghost use Rattle.sst_cli.specs.Produced.{HasProduced};
 ghost use Rattle.sst_cli.specs.Run.{ChangesOnly};
 ghost use Rattle.sst_cli.specs.declared.refusal.Refusal.{Refusal};
 
 use crate::bbt_writer::BbtWriter;
-use crate::device::folder::{DevStop, Folder};
-use crate::device::stream::Intake;
 use crate::reading::{InputStop, add_lines};
+use sst_device::{DevStop, Folder, Intake};
 use std::alloc::Global;
 
 /// Begins the named file, reads the input to its end, and writes the file of its entries. Answers how many there

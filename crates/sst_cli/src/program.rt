@@ -9,8 +9,8 @@ ghost use Rattle.sst_cli.specs.BlockBased.{Opens, BlockBased};
 ghost use Rattle.sst_cli.specs.CallText.{calls_text, AreInLimits, AreOfBytes};
 ghost use Rattle.sst_cli.specs.CallsRun.{Answered, AnsweredByWay, IsDamaged, IsLacking, IsTextFor};
 ghost use Rattle.sst_cli.specs.EntryText.{lines_text, AreBytes};
-ghost use Rattle.sst_cli.specs.Faults.{Rose};
-ghost use Rattle.sst_cli.specs.Folder.{file_of, misses};
+ghost use Rattle.sst_device.specs.Faults.{Rose};
+ghost use Rattle.sst_device.specs.Folder.{file_of, misses};
 ghost use Rattle.sst_cli.specs.Opening.{open_read};
 ghost use Rattle.sst_cli.specs.Printed.{Prints};
 ghost use Rattle.sst_cli.specs.Reading as reading;
@@ -23,11 +23,10 @@ ghost use Rattle.sst_cli.specs.declared.bbt_fault.BbtFault.{BbtFault};
 ghost use Rattle.sst_cli.specs.declared.refusal.Refusal.{Refusal};
 
 use crate::call_command::calls;
-use crate::device::folder::Folder;
-use crate::device::stream::{Intake, Sink};
 use crate::printing::print;
 use crate::words::{calls_name, out_name};
 use crate::write_command::write;
+use sst_device::{Folder, Intake, Sink};
 use std::alloc::Global;
 
 /// How a run of the program ends. A number stands for each, from 0 on in this order.

@@ -7,12 +7,12 @@ ghost use Rattle.sst_block.specs.Builder.{Holds};
 ghost use Rattle.sst_block.specs.Chosen.{block_of};
 ghost use Rattle.sst_cli.specs.After.{data_of};
 ghost use Rattle.sst_cli.specs.BlockBased.{rows_of};
-ghost use Rattle.sst_cli.specs.Framed.{frame_of};
+ghost use Rattle.sst_device.specs.Framed.{frame_of};
 ghost use Rattle.sst_cli.specs.TableParts.{index_rows_by};
 ghost use Rattle.sst_cli.specs.Written as written;
 
-use crate::device::frame::put_frame;
 use sst_block::{BlockBuilder, RowForm};
+use sst_device::put_frame;
 use sst_num::{Bytes, Handle, Memory, put_handle};
 use std::alloc::Global;
 

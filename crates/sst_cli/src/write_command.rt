@@ -2,19 +2,18 @@
 ghost use Rattle.std.specs.Prelude.{◌≡◌, ◌⊎◌, ℕ, List, Some, Ok, Err};
 ghost use Rattle.std.specs.Io.KnownBytes.{append_known};
 ghost use Rattle.sst_key.specs.declared.entries.Entry.{Entry};
-ghost use Rattle.sst_cli.specs.Faults.{Rose};
+ghost use Rattle.sst_device.specs.Faults.{Rose};
 ghost use Rattle.sst_cli.specs.Reading.{read_input};
 ghost use Rattle.sst_cli.specs.Refusals.{refusal_text};
 ghost use Rattle.sst_cli.specs.declared.refusal.Refusal.{Refusal};
 ghost use Rattle.sst_cli.specs.Run.{IsFault, IsWriteText, ChangesOnly, Wrote, done_text};
 ghost use Rattle.sst_cli.specs.Printed.{IsPrinted, Prints};
 
-use crate::device::folder::Folder;
-use crate::device::stream::{Intake, Sink};
 use crate::printing::{print, print_refusal, status_of};
 use crate::produce::produce;
 use crate::program::Status;
 use crate::reading::InputStop;
+use sst_device::{Folder, Intake, Sink};
 use std::alloc::Global;
 
 /// Writes the file of the entries of the input, and prints how many there are or why the input is refused.

@@ -3,11 +3,10 @@
 //! The data block of 21 bytes stands at 0; its type byte is at 21, and its checksum at 22. The file has 119 bytes.
 use super::{BbtReader, open};
 use crate::bbt_fault::BbtFault;
-use crate::device::frame::FrameFault;
-use crate::device::memory::{MemFolder, MemIntake};
 use crate::fault_text::fault_line;
 use crate::meta_fault::MetaFault;
 use crate::produce::produce;
+use sst_device::{FrameFault, MemFolder, MemIntake};
 use sst_key::Kind;
 use sst_num::{Handle, Stop, put_fixed32};
 use sst_sums::{crc32c, mask};

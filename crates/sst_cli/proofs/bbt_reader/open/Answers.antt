@@ -1,5 +1,5 @@
 use Rattle.std.proofs.Common.{Option, ap, ◌∙◌}
-use Rattle.sst_cli.specs.Folder.{Files, file_of}
+use Rattle.sst_device.specs.Folder.{Files, file_of}
 use Rattle.sst_cli.proofs.OpenSteps.{stopped, after_end}
 use Rattle.sst_cli.proofs.bbt_reader.open.Goals as goal
 

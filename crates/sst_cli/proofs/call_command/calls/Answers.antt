@@ -1,5 +1,5 @@
 use Rattle.std.proofs.Common.{Ok, Err, refl}
-use Rattle.sst_cli.specs.Folder.{file_of}
+use Rattle.sst_device.specs.Folder.{file_of}
 use Rattle.sst_cli.specs.Refusals.{refusal_text}
 use Rattle.sst_cli.proofs.CallsPrinted.{input_text_is, some_calls_text}
 use Rattle.sst_cli.proofs.PrintedTexts.{some_printed, none_printed}

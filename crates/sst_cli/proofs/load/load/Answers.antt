@@ -1,5 +1,5 @@
 use Rattle.std.proofs.Common.{arith, ◌≡◌, ◌∙◌, length, Ok, Some, Option, ap}
-use Rattle.sst_cli.specs.Folder.{Files, file_of}
+use Rattle.sst_device.specs.Folder.{Files, file_of}
 use Rattle.sst_cli.specs.FooterReading.{footer_read, last_bytes}
 use Rattle.sst_cli.specs.Opening.{footer_start}
 use Rattle.sst_cli.proofs.Loading.{names_stop}

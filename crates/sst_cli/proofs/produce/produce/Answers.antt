@@ -1,7 +1,7 @@
 use Rattle.std.proofs.Common.{ℕ, List, take, Err, sym, ap, ◌∙◌, inl, inr, subst}
 use Rattle.std.proofs.lemmas.Result.{err_from_is_err_and}
 use Rattle.sst_cli.specs.Written.{Written}
-use Rattle.sst_cli.proofs.FolderLaws.{appended_to_new, append_cause}
+use Rattle.sst_device.proofs.FolderLaws.{appended_to_new, append_cause}
 use Rattle.sst_cli.proofs.Stops.{given_stop}
 use Rattle.sst_cli.proofs.produce.produce.Goals as goal
 

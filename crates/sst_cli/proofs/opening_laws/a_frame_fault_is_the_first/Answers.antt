@@ -1,5 +1,0 @@
-use Rattle.sst_cli.proofs.FramesRead.{frame_read-fault, frame-fault}
-use Rattle.sst_cli.proofs.opening_laws.a_frame_fault_is_the_first.Goals as goal
-
-pub returns : goal.returns
-returns c = record { complete = frame_read-fault; sound = frame-fault }

@@ -1,8 +1,0 @@
-use Rattle.sst_cli.proofs.FramesRead.{frame_read-framed, framed-read}
-use Rattle.sst_cli.proofs.opening_laws.a_stored_block_is_read.Goals as goal
-
-pub returns-clause-complete : goal.returns-clause-complete
-returns-clause-complete c = frame_read-framed
-
-pub returns-clause-sound : goal.returns-clause-sound
-returns-clause-sound c = framed-read

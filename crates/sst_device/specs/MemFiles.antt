@@ -1,0 +1,19 @@
+-- What the files of a folder in memory stand for.
+use Rattle.std.specs.Prelude.{ℕ, Bool, List, map, nat_eq}
+use Rattle.std.specs.Cmp.Lexicographic.{pointwise}
+use Rattle.std.specs.FinMap.{from_entries}
+use Rattle.std.specs.String.{string_bytes}
+use Rattle.sst_device.specs.Folder.{Files}
+use Rattle.sst_device.specs.declared.memory.files.MemFile.{MemFile}
+
+-- a file as an entry of the folder: the bytes of its name, and its bytes
+abbrev pub entry_of : MemFile → List ℕ × List ℕ
+entry_of file = (string_bytes file.name, file.bytes.items)
+
+-- the folder of some files; the first of two files of one name counts
+abbrev pub files_of : List MemFile → Files
+files_of files = from_entries (map entry_of files)
+
+-- the file has this name
+abbrev pub is_named : List ℕ → MemFile → Bool
+is_named name file = pointwise nat_eq name (string_bytes file.name)
