@@ -19,7 +19,8 @@ use Rattle.sst_cli.proofs.EntriesOfRows.{EntriesOf, entries-of_rows}
 use Rattle.sst_cli.proofs.FooterLaws.{leads-read}
 use Rattle.sst_cli.proofs.Leads.{Leads, leads-meta}
 use Rattle.sst_cli.proofs.Opened.{handle_at-alone}
-use Rattle.sst_cli.proofs.ReadSteps.{by_test, then_open-ok}
+use Rattle.sst_device.proofs.Choices.{by_test}
+use Rattle.sst_cli.proofs.ReadSteps.{then_open-ok}
 
 -- a metaindex that is passed has no row
 without_names-ok : (footer : Footer) (rows : List Row) (index : Handle) → without_names footer rows ≡ Ok index → (rows ≡ []) × (footer.index ≡ index)

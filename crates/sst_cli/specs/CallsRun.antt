@@ -4,7 +4,7 @@ use Rattle.std.specs.Io.KnownBytes.{append_known}
 use Rattle.sst_key.specs.declared.entries.Entry.{Entry}
 use Rattle.sst_key.specs.declared.calls.Call.{Call}
 use Rattle.sst_cli.specs.BlockBased.{HasSeq}
-use Rattle.sst_cli.specs.Folder.{Files, file_of, misses}
+use Rattle.sst_device.specs.Folder.{Files, file_of, misses}
 use Rattle.sst_cli.specs.FaultText.{fault_text}
 use Rattle.sst_cli.specs.Opening.{RowBlock, open_read, blocks_read}
 use Rattle.sst_cli.specs.Reading.{read_calls}

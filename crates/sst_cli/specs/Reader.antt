@@ -15,31 +15,13 @@ use Rattle.sst_block.specs.Block.{Row}
 use Rattle.sst_block.specs.Reading.{block_read}
 use Rattle.sst_cli.specs.TableBlocks.{Table, HasSeparator, blocks_of, row_blocks_of}
 use Rattle.sst_cli.specs.Opening.{RowBlock, then_open, as_fault, rows_in, meta_read, footer_start, block_at}
-use Rattle.sst_cli.specs.declared.device.folder.DevStop.{DevStop}
-use Rattle.sst_cli.specs.declared.device.folder.DevStop.TheVariants as device
+use Rattle.sst_device.specs.declared.folder.DevStop.{DevStop}
+use Rattle.sst_device.specs.declared.folder.DevStop.TheVariants as device
 use Rattle.sst_cli.specs.declared.meta_fault.MetaFault.{MetaFault}
 use Rattle.sst_cli.specs.declared.meta_fault.MetaFault.TheVariants as meta
 use Rattle.sst_cli.specs.declared.bbt_fault.BbtFault.{BbtFault}
 use Rattle.sst_cli.specs.declared.bbt_fault.BbtFault.TheVariants as bbt
 use Rattle.sst_cli.specs.declared.load.Loaded.{Loaded}
-
--- a stop of an object outside as one of a call that reads a file
-abbrev pub stop_of : {X : Type 0} → DevStop → Stop X
-stop_of device.Failed = Device
-stop_of device.Memory = Memory
-
--- a stop with its fault as a fault of another type
-abbrev pub stop_as : {X Y : Type 0} → (X → Y) → Stop X → Stop Y
-stop_as f (Damage fault) = Damage (f fault)
-stop_as f Device = Device
-stop_as f Memory = Memory
-
--- an answer is what was read: the value, or the fault
-abbrev pub Answers : {A X : Type 0} → Result A (Stop X) → Result A X → Type 0
-Answers (Ok x) read = read ≡ Ok x
-Answers (Err (Damage fault)) read = read ≡ Err fault
-Answers (Err Device) read = Unit {0}
-Answers (Err Memory) read = Unit {0}
 
 -- the rows of a block, or its first fault
 abbrev pub rows_checked : {F : Type 0} → (BlockFault → F) → RowForm → List ℕ → Result (List Row) F

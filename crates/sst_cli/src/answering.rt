@@ -2,15 +2,14 @@
 ghost use Rattle.std.specs.Prelude.{◌≡◌, ℕ, ◌≤◌, List, [], ◌++◌, take, Option, Some, option_and_then, slice_get, Err, OnOk, OnErr};
 ghost use Rattle.std.specs.Io.KnownBytes.{append_known};
 ghost use Rattle.sst_key.specs.ListMachine.{shows};
-ghost use Rattle.sst_cli.specs.Faults.{Rose};
+ghost use Rattle.sst_device.specs.Faults.{Rose};
 ghost use Rattle.sst_cli.specs.Replies.{answer_line, way_text};
 ghost use Rattle.sst_cli.specs.Cursors.{Belongs, Comes, entry_shown, lent};
 ghost use Rattle.sst_cli.specs.TableBlocks.{blocks_of};
 ghost use Rattle.sst_cli.specs.Way.{joined, way_answer, way_get};
 
 use crate::bbt_reader::{BbtReader, Cursor};
-use crate::device::folder::DevStop;
-use crate::device::stream::{Sink, put_all};
+use sst_device::{DevStop, Sink, put_all};
 use crate::reply_line::put_reply_line;
 use sst_key::{Call, EntryView, Reply, Target};
 use sst_num::Memory;

@@ -1,19 +1,18 @@
 //! The reader of block-based files. A file is opened, or the first thing that is wrong with it is answered.
 ghost use Rattle.std.specs.Prelude.{◌≡◌, ◌≢◌, ℕ, ◌^◌, ◌≤◌, ◌⊎◌, false, List, length, Some, Err, IfOk, IsTrue};
 ghost use Rattle.sst_block.specs.declared.row_form.RowForm.TheVariants.{Entries, Index};
-ghost use Rattle.sst_cli.specs.Folder.{file_of, misses};
-ghost use Rattle.sst_cli.specs.Faults.{Rose};
+ghost use Rattle.sst_device.specs.Folder.{file_of, misses};
+ghost use Rattle.sst_device.specs.Faults.{Rose};
 ghost use Rattle.sst_cli.specs.Opening.{as_block, then_open, with_rows, data_read, index_blocks_read, blocks_read};
-ghost use Rattle.sst_cli.specs.Reader.{Answers, IsSeparated, Opened, stop_as, rows_checked, place_of, place_read};
+ghost use Rattle.sst_device.specs.Stops.{Answers, stop_as};
+ghost use Rattle.sst_cli.specs.Reader.{IsSeparated, Opened, rows_checked, place_of, place_read};
 ghost use Rattle.sst_cli.specs.declared.bbt_fault.BbtFault.TheVariants as bbt;
 
 mod calls;
 
 use crate::bbt_fault::BbtFault;
 use crate::block_rows::{count_rows, entries_of, first_row};
-use crate::device::draw::draw_framed;
-use crate::device::folder::Folder;
-use crate::device::frame::FrameFault;
+use sst_device::{Folder, FrameFault, draw_framed};
 use crate::load::{Loaded, load};
 use crate::meta_fault::MetaFault;
 pub use calls::Cursor;

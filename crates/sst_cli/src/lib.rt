@@ -107,7 +107,6 @@ mod call_reading;
 #[cfg(test)]
 mod call_tests;
 mod cuts;
-pub mod device;
 mod entry_line;
 mod fault_text;
 mod fields;
@@ -139,8 +138,7 @@ pub use laws::{
 pub use meta_fault::MetaFault;
 pub use opening_laws::{
     a_fault_is_shown, a_file_opens_to_its_rows, a_file_stands_for_one_list,
-    a_file_that_opens_shows_no_fault, a_footer_is_read, a_frame_fault_is_the_first,
-    a_stored_block_is_read, a_written_file_reads_back, what_opens_is_ordered,
+    a_file_that_opens_shows_no_fault, a_footer_is_read, a_written_file_reads_back, what_opens_is_ordered,
 };
 pub use program::{Status, run};
 pub use way_laws::{

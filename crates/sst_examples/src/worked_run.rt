@@ -1,6 +1,5 @@
 //! A run of the program over a folder, an input and an output in memory.
-use sst_cli::device::memory::{MemFolder, MemIntake, MemSink};
-use sst_cli::device::stream::Intake;
+use sst_device::{Intake, MemFolder, MemIntake, MemSink};
 use sst_cli::{Status, run};
 use std::alloc::Global;
 use std::test::Fail;

@@ -3,7 +3,7 @@
 //! The file was written by hand. Its data block has the one entry 6b657930303131 1 P 26, and its index row the separator
 //! 6b6579303031 with the tag 4. So the separator is before the entry.
 use super::{BbtReader, open};
-use crate::device::memory::MemFolder;
+use sst_device::MemFolder;
 use sst_key::{EntryView, Kind, Reply};
 use std::alloc::Global;
 use std::test::Fail;

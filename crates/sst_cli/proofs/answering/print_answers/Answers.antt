@@ -1,6 +1,6 @@
 use Rattle.std.proofs.Common.{arith}
 use Rattle.sst_cli.specs.TableBlocks.{blocks_of}
-use Rattle.sst_cli.proofs.Pieces.{OnErr-always}
+use Rattle.sst_device.proofs.Pieces.{OnErr-always}
 use Rattle.sst_cli.proofs.AnswersPrinted.{begun, puts, is_prefix, is_prefix_cut, ended, ended_cut, next_call}
 use Rattle.sst_cli.proofs.answering.print_answers.Goals as goal
 

@@ -1,6 +1,6 @@
 use Rattle.std.proofs.Common.{Ok, Err, refl, sym, inl, inr}
 use Rattle.sst_cli.specs.FaultText.{fault_text}
-use Rattle.sst_cli.specs.Folder.{file_of}
+use Rattle.sst_device.specs.Folder.{file_of}
 use Rattle.sst_cli.specs.TableBlocks.{blocks_of, row_blocks_of}
 use Rattle.sst_cli.proofs.BlocksOpened.{open_read-fault_of}
 use Rattle.sst_cli.proofs.OneBlock.{table-seqs}
