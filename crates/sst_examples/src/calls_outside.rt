@@ -3,7 +3,7 @@
 //!
 //! The texts are worked by hand. They are this project's own.
 use crate::calls::file_of_lines;
-use crate::one_block::{ONE_ENTRY, file_of};
+use crate::one_block::{ONE_ENTRY, assert_no_command, file_of};
 use crate::worked_run::{
     CALLS, NAME, NONE_FAILS, Object, Ran, answered, answered_with, answered_with_stuck_sink,
     failing_at, holds, other_is_as_it_was, printed, refused, run_on, still_to_come,
@@ -32,12 +32,7 @@ static NO_COMMANDS: [&[&str]; 9] = [
 #[test]
 fn words_that_are_no_command(rt: HostRuntime) -> Result<(), Fail> {
     for words in NO_COMMANDS {
-        let mut ran = run_on(rt.alloc(), words, LINE.as_bytes(), NONE_FAILS)?;
-        assert_eq!(rt; ran.status, Status::Usage, "on {words:?}");
-        assert!(rt; printed(&ran, "usage\n"), "on {words:?}");
-        assert!(rt; ran.folder.file(NAME).is_none(), "on {words:?}");
-        assert!(rt; other_is_as_it_was(&ran), "on {words:?}");
-        assert!(rt; still_to_come(&mut ran, LINE), "on {words:?}");
+        assert_no_command(&rt, rt.alloc(), words, LINE)?;
     }
     Ok(())
 }

@@ -174,15 +174,26 @@ static NO_COMMANDS: [&[&str]; 9] = [
     &["", "write", "block", NAME],
 ];
 
+/// Asserts that the words are no command: nothing is touched but the output.
+pub(crate) fn assert_no_command(
+    rt: &impl Abort,
+    alloc: Global,
+    words: &[&str],
+    input: &str,
+) -> Result<(), Fail> {
+    let mut ran = run_on(alloc, words, input.as_bytes(), NONE_FAILS)?;
+    assert_eq!(rt; ran.status, Status::Usage, "on {words:?}");
+    assert!(rt; printed(&ran, "usage\n"), "on {words:?}");
+    assert!(rt; ran.folder.file(NAME).is_none(), "on {words:?}");
+    assert!(rt; other_is_as_it_was(&ran), "on {words:?}");
+    assert!(rt; still_to_come(&mut ran, input), "on {words:?}");
+    Ok(())
+}
+
 #[test]
 fn words_that_are_no_command(rt: HostRuntime) -> Result<(), Fail> {
     for words in NO_COMMANDS {
-        let mut ran = run_on(rt.alloc(), words, LINE.as_bytes(), NONE_FAILS)?;
-        assert_eq!(rt; ran.status, Status::Usage, "on {words:?}");
-        assert!(rt; printed(&ran, "usage\n"), "on {words:?}");
-        assert!(rt; ran.folder.file(NAME).is_none(), "on {words:?}");
-        assert!(rt; other_is_as_it_was(&ran), "on {words:?}");
-        assert!(rt; still_to_come(&mut ran, LINE), "on {words:?}");
+        assert_no_command(&rt, rt.alloc(), words, LINE)?;
     }
     Ok(())
 }
