@@ -14,10 +14,9 @@ use Rattle.sst_block.specs.declared.row_form.RowForm.TheVariants.{Index}
 use Rattle.sst_block.specs.declared.fault.BlockFault.{BlockFault}
 use Rattle.sst_block.specs.Block.{Row, Spelled, IsRow}
 use Rattle.sst_block.specs.Reading.{Reads, Gives, block_read}
-use Rattle.sst_cli.specs.BlockBased.{rows_of}
 use Rattle.sst_cli.specs.Opening.{RowBlock, index_blocks_read, blocks_read}
 use Rattle.sst_device.specs.Stops.{stop_as}
-use Rattle.sst_cli.specs.Reader.{Loads, Opened, rows_checked, place_led, place_of}
+use Rattle.sst_cli.specs.Reader.{Loads, Opened, rows_checked, place_led}
 use Rattle.sst_cli.specs.declared.meta_fault.MetaFault.{MetaFault}
 use Rattle.sst_cli.specs.declared.meta_fault.MetaFault.TheVariants as meta
 use Rattle.sst_cli.specs.declared.load.Loaded.{Loaded}
@@ -73,31 +72,6 @@ place_long bytes row place short reads is =
     let block = read-sound (Index false false) bytes (row ∷ []) tt short reads in
     let long : 8 ≤ length row.key = (All-head (IsRow (Index false false)) row [] block.forms).1.0 in
     key_long row.key (handle_at row.value) place long is
-
-led_nowhere : (rows : List Row) (n : ℕ) → length rows ≡ n → (n ≡ 0 → ⊥) → (n ≡ 1 → ⊥) → place_of rows ≡ Err (bbt.Meta meta.NotYet)
-led_nowhere [] n long some more = absurd (some (sym long))
-led_nowhere (row ∷ []) n long some more = absurd (more (sym long))
-led_nowhere (row ∷ next ∷ rest) n long some more = refl
-
--- an index with more than one row
-pub place_many : (block : BlockFault → BbtFault) (form : RowForm) (bytes : List ℕ) (n : ℕ) → Gives (Ok n) (block_read form bytes)
-    → (n ≡ 0 → ⊥) → (n ≡ 1 → ⊥) → then_open (rows_checked block form bytes) place_of ≡ Err (bbt.Meta meta.NotYet)
-place_many block form bytes n gives some more =
-    let r = read_rows form bytes n gives in
-    ap (λ (rows : Result (List Row) BbtFault). then_open rows place_of) (checked-rows block form bytes r.0 r.1) ∙ led_nowhere r.0 n r.2 some more
-
-has_rows : (h : Handle) (rows : List Row) (n : ℕ) → length rows ≡ n → (n ≡ 0 → ⊥) → with_rows h rows ≡ Ok rows
-has_rows h [] n long some = absurd (some (sym long))
-has_rows h (row ∷ rest) n long some = refl
-
--- a data block with entries, which are those of its rows
-pub rows_had : (block : BlockFault → BbtFault) (h : Handle) (form : RowForm) (bytes : List ℕ) (n : ℕ) (entries : List Entry) → Gives (Ok n) (block_read form bytes)
-    → (n ≡ 0 → ⊥) → ((rows : List Row) → Reads form bytes rows → length rows ≡ n → rows ≡ rows_of entries)
-    → then_open (rows_checked block form bytes) (with_rows h) ≡ Ok (rows_of entries)
-rows_had block h form bytes n entries gives some same =
-    let r = read_rows form bytes n gives in
-    ap (λ (rows : Result (List Row) BbtFault). then_open rows (with_rows h)) (checked-rows block form bytes r.0 r.1) ∙ has_rows h r.0 n r.2 some
-    ∙ ap Ok (same r.0 r.1 r.2)
 
 -- an end that isn't had
 pub stopped : (stop : Stop MetaFault) (file : List ℕ) → Loads (Err stop) file → Opened (Err (stop_as bbt.Meta stop)) (blocks_read file)

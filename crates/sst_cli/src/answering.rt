@@ -9,8 +9,8 @@ ghost use Rattle.sst_cli.specs.TableBlocks.{blocks_of};
 ghost use Rattle.sst_cli.specs.Way.{joined, way_answer, way_get};
 
 use crate::bbt_reader::{BbtReader, Cursor};
-use sst_device::{DevStop, Sink, put_all};
 use crate::reply_line::put_reply_line;
+use sst_device::{DevStop, Sink, put_all};
 use sst_key::{Call, EntryView, Reply, Target};
 use sst_num::Memory;
 use std::alloc::Global;

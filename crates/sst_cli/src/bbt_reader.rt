@@ -12,11 +12,11 @@ mod calls;
 
 use crate::bbt_fault::BbtFault;
 use crate::block_rows::{count_rows, entries_of, first_row};
-use sst_device::{Folder, FrameFault, draw_framed};
 use crate::load::{Loaded, load};
 use crate::meta_fault::MetaFault;
 pub use calls::Cursor;
 use sst_block::RowForm;
+use sst_device::{Folder, FrameFault, draw_framed};
 use sst_key::Entry;
 use sst_num::{Bytes, Handle, Memory, Refused, Stop};
 use std::alloc::Global;

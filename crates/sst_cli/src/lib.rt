@@ -89,10 +89,9 @@
 //!
 //! # For now
 //!
-//! A part whose crate comes later stands here, and moves unchanged: [`device`], which is the folder, input
-//! and output, and their forms in memory and on a real machine; stored blocks (`device::frame`); the footer and the
-//! metaindex (`footer`, `load`); the writer (`bbt_writer`, `table_parts`); and the reader (`bbt_reader`). The whole file
-//! is made in memory, with one data block at most, and then added to OUT; a reader keeps all entries in memory.
+//! A part whose crate comes later stands here, and moves unchanged: the footer and the metaindex (`footer`, `load`); the
+//! writer (`bbt_writer`, `table_parts`); and the reader (`bbt_reader`). The whole file is made in memory, with one data
+//! block at most, and then added to OUT; a reader keeps all entries in memory.
 #![tactic(auto)]
 
 mod answering;
@@ -138,7 +137,8 @@ pub use laws::{
 pub use meta_fault::MetaFault;
 pub use opening_laws::{
     a_fault_is_shown, a_file_opens_to_its_rows, a_file_stands_for_one_list,
-    a_file_that_opens_shows_no_fault, a_footer_is_read, a_written_file_reads_back, what_opens_is_ordered,
+    a_file_that_opens_shows_no_fault, a_footer_is_read, a_written_file_reads_back,
+    what_opens_is_ordered,
 };
 pub use program::{Status, run};
 pub use way_laws::{

@@ -6,7 +6,7 @@ use Rattle.sst_cli.specs.Opening.{then_open}
 use Rattle.sst_cli.specs.Reader.{place_of}
 use Rattle.sst_cli.specs.declared.bbt_fault.BbtFault.{BbtFault}
 use Rattle.sst_cli.specs.declared.bbt_fault.BbtFault.TheVariants as bbt
-use Rattle.sst_cli.proofs.OpenSteps.{read_one, checked-rows, place_some, place_none, place_many, place_long}
+use Rattle.sst_cli.proofs.OpenSteps.{read_one, checked-rows, place_some, place_none, place_long}
 use Rattle.sst_cli.proofs.bbt_reader.data_place.Goals as goal
 
 pub first_row-requires : goal.first_row-requires
@@ -28,7 +28,3 @@ returns-in-Ok-None-clause-told c =
     let r = read_one (Index false false) c.args.block.now (rw c.in-Ok-eq1.field-0-test at c.in-Ok-eq1.ensures) in
     let all = checked-rows (bbt.Block c.args.handle) (Index false false) c.args.block.now (r.0 ∷ []) r.1 in
     ap (λ (rows : Result (List Row) BbtFault). then_open rows place_of) all ∙ place_none r.0.key (handle_at r.0.value) (sym c.in-Ok-None.field-0-is ∙ c.in-Ok-None.ensures r.0 [] r.1)
-
-pub returns-in-Ok-clause-told : goal.returns-in-Ok-clause-told
-returns-in-Ok-clause-told c =
-    place_many (bbt.Block c.args.handle) (Index false false) c.args.block.now c.in-Ok.field-0 c.in-Ok.ensures.exact c.in-Ok.field-0-test.0.1 c.in-Ok.field-0-test.1
