@@ -1,6 +1,6 @@
 //! A run of the program over a folder, an input and an output in memory.
-use sst_device::{Intake, MemFolder, MemIntake, MemSink};
 use sst_cli::{Status, run};
+use sst_device::{Intake, MemFolder, MemIntake, MemSink};
 use std::alloc::Global;
 use std::test::Fail;
 
