@@ -1,0 +1,6 @@
+//! Meta blocks.
+#![tactic(auto)]
+
+mod builder;
+
+pub use builder::PropsBuilder;
