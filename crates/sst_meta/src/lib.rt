@@ -2,5 +2,8 @@
 #![tactic(auto)]
 
 mod builder;
+mod pair;
+mod props;
 
 pub use builder::PropsBuilder;
+pub use props::Props;
