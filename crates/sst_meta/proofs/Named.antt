@@ -1,5 +1,5 @@
 -- The names of a block increase, so each stands once, and halving finds it.
-use Rattle.std.proofs.Common.{◌≡◌, ℕ, zero, suc, ◌<◌, ◌≤◌, false, true, List, [], ◌∷◌, length, Option, None, Some, Result, Ok, Err, IfOk, IfErr, slice_get, slice_index_or, inl, inr, refl, sym, ap, ◌∙◌, subst, arith}
+use Rattle.std.proofs.Common.{◌≡◌, ℕ, zero, suc, ◌<◌, ◌≤◌, if◌then◌else◌, false, true, List, [], ◌∷◌, length, Option, None, Some, Result, Ok, Err, IfOk, IfErr, slice_get, slice_index_or, inl, inr, refl, sym, ap, ◌∙◌, subst, arith}
 use Rattle.std.specs.Prelude.{bytes_eq}
 use Rattle.std.specs.List.Sorted.{IsSearchInRange, IsBinarySearchResult, IsNonDecreasingBy}
 use Rattle.std.specs.Ordering.{nat_cmp, ordering_index}
@@ -14,7 +14,7 @@ use Rattle.std.proofs.lemmas.Slice.Eq.{bytes_eq-Decides}
 use Rattle.sst_block.specs.declared.row_form.RowForm.TheVariants.{Names}
 use Rattle.sst_block.specs.Block.{Row, AreOrdered}
 use Rattle.sst_meta.specs.declared.pair.Pair.{Pair}
-use Rattle.sst_meta.specs.Pairs.{row_of, rows_of, value_of}
+use Rattle.sst_meta.specs.Pairs.{row_of, rows_of, value_of, Has}
 
 abbrev cmp : List ℕ → List ℕ → Ordering
 cmp a b = slice_cmp nat_cmp a b
@@ -168,3 +168,35 @@ got-none rows pairs lent name are same others =
         let p = pair-at pairs i row at in
         others i p.0 (ap (λ (l : List Pair). slice_get l i) same ∙ p.1) (ap (λ (r : Row). r.key) p.2 ∙ k)) in
     sym none ∙ ap (value_of name) are
+
+made : (name value : List ℕ) (row : Row) → row.key ≡ name → row.value ≡ value → row ≡ record { key = name; value = value }
+made name value row k v = rw (sym k, sym v) refl
+
+-- a value is that of a row with the name
+pub value-shown : (name : List ℕ) (rows : List Row) (value : List ℕ) → value_of name rows ≡ Some value → Has rows (record { key = name; value = value })
+value-shown name [] value e = cc
+value-shown name (a ∷ rest) value e =
+    elim (bytes_eq a.key name) as (λ b. bytes_eq a.key name ≡ b → (if b then Some a.value else value_of name rest) ≡ Some value
+    → Has (a ∷ rest) (record { key = name; value = value })) [
+      | true ↦ λ same said. let v : a.value ≡ value = cc in (0, ap Some (made name value a ((bytes_eq-Decides a.key name).0 same) v))
+      | false ↦ λ same said. let there = value-shown name rest value said in (suc there.0, there.1)
+    ] refl e
+
+not-first : (name : List ℕ) (a row : Row) → Some a ≡ Some row → row.key ≡ name → bytes_eq a.key name ≡ false → ⊥
+not-first name a row first same other =
+    let is : a ≡ row = cc in
+    let named = (bytes_eq-Decides a.key name).1 (ap (λ (r : Row). r.key) is ∙ same) in
+    cc
+
+no-value : (name : List ℕ) (a : Row) (rest : List Row) → value_of name (a ∷ rest) ≡ None → (bytes_eq a.key name ≡ false) × (value_of name rest ≡ None)
+no-value name a rest e =
+    elim (bytes_eq a.key name) as (λ b. (if b then Some a.value else value_of name rest) ≡ None → (b ≡ false) × (value_of name rest ≡ None)) [
+      | true ↦ λ said. cc
+      | false ↦ λ said. (refl, said)
+    ] e
+
+-- where there is no value, no row has the name
+pub value-missing : (name : List ℕ) (rows : List Row) (i : ℕ) (row : Row) → value_of name rows ≡ None → slice_get rows i ≡ Some row → row.key ≡ name → ⊥
+value-missing name [] i row e at same = cc
+value-missing name (a ∷ rest) zero row e at same = not-first name a row at same (no-value name a rest e).0
+value-missing name (a ∷ rest) (suc i) row e at same = value-missing name rest i row (no-value name a rest e).1 at same
