@@ -1,3 +1,4 @@
 pub mod Named
 pub mod OneRestart
 pub mod PairsRead
+pub mod Setting
