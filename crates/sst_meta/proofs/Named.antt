@@ -1,5 +1,5 @@
 -- The names of a block increase, so each stands once, and halving finds it.
-use Rattle.std.proofs.Common.{◌≡◌, ℕ, zero, suc, ◌<◌, ◌≤◌, if◌then◌else◌, false, true, List, [], ◌∷◌, length, Option, None, Some, Result, Ok, Err, IfOk, IfErr, slice_get, slice_index_or, inl, inr, refl, sym, ap, ◌∙◌, subst, arith}
+use Rattle.std.proofs.Common.{◌≡◌, ℕ, zero, suc, ◌<◌, ◌≤◌, if◌then◌else◌, false, true, List, [], ◌∷◌, length, None, Some, Result, Ok, Err, IfOk, IfErr, slice_get, slice_index_or, inl, inr, refl, sym, ap, ◌∙◌, subst, arith}
 use Rattle.std.specs.Prelude.{bytes_eq}
 use Rattle.std.specs.List.Sorted.{IsSearchInRange, IsBinarySearchResult, IsNonDecreasingBy}
 use Rattle.std.specs.Ordering.{nat_cmp, ordering_index}
@@ -9,7 +9,7 @@ use Rattle.std.specs.declared.cmp.Ordering.TheVariants.{Less, Equal, Greater}
 use Rattle.std.proofs.lemmas.Bool.{cases_lt, false_from_ne_true}
 use Rattle.std.proofs.lemmas.Cmp.{nat_list_cmp_total, tied_itself}
 use Rattle.std.proofs.lemmas.Map.Lookups.{exact_bytes}
-use Rattle.std.proofs.lemmas.Option.{slice_get_within, slice_get_cases, get_or_from_slice_get}
+use Rattle.std.proofs.lemmas.Option.{slice_get_within, get_or_from_slice_get}
 use Rattle.std.proofs.lemmas.Slice.Eq.{bytes_eq-Decides}
 use Rattle.sst_block.specs.declared.row_form.RowForm.TheVariants.{Names}
 use Rattle.sst_block.specs.Block.{Row, AreOrdered}
@@ -142,8 +142,10 @@ searched pairs name (Err at) ordered within parted =
   where
     tied : (p : Pair) (o : Ordering) → p.name ≡ name → cmp p.name name ≡ o → o ≡ Equal
     tied p o same is = sym is ∙ ap (λ (l : List ℕ). cmp l name) same ∙ tied_itself nat_list_cmp_total name
+
     shown : (i : ℕ) (p : Pair) (o : Ordering) → slice_get pairs i ≡ Some p → cmp (slice_index_or pairs i p).name name ≡ o → cmp p.name name ≡ o
     shown i p o is said = sym (ap (λ (q : Pair). cmp q.name name) (get_or_from_slice_get pairs i p p is)) ∙ said
+
     differs_at : (i : ℕ) → NamedAt pairs name i
         → ((k : ℕ) (d : Pair) → 0 ≤ k → k < at → cmp (slice_index_or pairs k d).name name ≡ Less)
         × ((k : ℕ) (d : Pair) → at ≤ k → k < length pairs → cmp (slice_index_or pairs k d).name name ≡ Greater) → ⊥
@@ -165,8 +167,8 @@ got rows pairs lent name at value are ordered same (p, is, named) shown =
 pub got-none : (rows : List Row) (pairs lent : List Pair) (name : List ℕ) → rows_of pairs ≡ rows → lent ≡ pairs → IsNotNamed lent name → None ≡ value_of name rows
 got-none rows pairs lent name are same others =
     let none = value-none name (rows_of pairs) (λ i row at k.
-        let p = pair-at pairs i row at in
-        others i p.0 (ap (λ (l : List Pair). slice_get l i) same ∙ p.1) (ap (λ (r : Row). r.key) p.2 ∙ k)) in
+    let p = pair-at pairs i row at in
+    others i p.0 (ap (λ (l : List Pair). slice_get l i) same ∙ p.1) (ap (λ (r : Row). r.key) p.2 ∙ k)) in
     sym none ∙ ap (value_of name) are
 
 made : (name value : List ℕ) (row : Row) → row.key ≡ name → row.value ≡ value → row ≡ record { key = name; value = value }

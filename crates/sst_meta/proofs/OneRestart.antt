@@ -1,11 +1,11 @@
 -- So few names have one restart: no row but the first is the `n`-th.
-use Rattle.std.proofs.Common.{◌≡◌, ℕ, zero, suc, ◌+◌, ◌%◌, ◌==◌, ◌<◌, ◌≤◌, false, true, if◌then◌else◌, List, [], ◌∷◌, ◌++◌, length, refl, sym, ap, ◌∙◌, arith}
+use Rattle.std.proofs.Common.{◌≡◌, ℕ, ◌+◌, ◌%◌, ◌==◌, ◌<◌, ◌≤◌, false, true, List, [], ◌∷◌, ◌++◌, length, refl, ap, arith}
 use Rattle.std.specs.List.{flat_map}
 use Rattle.std.proofs.lemmas.Bool.{eq-eqb, ne_eqb}
 use Rattle.std.proofs.lemmas.List.{append-nil}
 use Rattle.std.proofs.Math.Nat.{zero-mod, mod-eq_of_lt}
 use Rattle.sst_num.specs.Spelling.{fixed}
-use Rattle.sst_block.specs.Block.{Row, Spelled, common, row_spelling, restarts_spelling}
+use Rattle.sst_block.specs.Block.{Row, Spelled, row_spelling, restarts_spelling}
 use Rattle.sst_block.specs.Chosen.{chosen, restarts_from, restarts_of, block_of}
 use Rattle.sst_block.proofs.Steps.{length-chosen}
 use Rattle.sst_meta.specs.PropsBlock.{sharing, properties_block}
