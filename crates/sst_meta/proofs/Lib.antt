@@ -1,0 +1,4 @@
+pub mod Named
+pub mod OneRestart
+pub mod PairsRead
+pub mod Setting

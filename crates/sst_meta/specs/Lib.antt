@@ -1,0 +1,3 @@
+pub mod Builder
+pub mod Pairs
+pub mod PropsBlock
