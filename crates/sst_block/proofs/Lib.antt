@@ -18,6 +18,7 @@ pub mod RestartsRead
 pub mod RowAt
 pub mod RowFaults
 pub mod RowForms
+pub mod RowsCopied
 pub mod RowsRead
 pub mod Size
 pub mod Steps

@@ -13,12 +13,10 @@ use Rattle.sst_block.specs.declared.row_form.RowForm.TheVariants.{Entries}
 use Rattle.sst_block.specs.Block.{Row, Block, IsRow, IsInternalKey, AreOrdered}
 use Rattle.sst_block.specs.Iter.{Walks, place_of}
 use Rattle.sst_block.specs.Reading.{Reads}
+use Rattle.sst_block.proofs.RowsCopied.{KeyAt, ValueAt, walks-at, same_row, one_more}
 use Rattle.sst_cli.specs.BlockBased.{row_of, rows_of, HasSeq}
 use Rattle.sst_cli.specs.Reader.{AreEntries}
 use Rattle.sst_cli.proofs.Rows.{rows_of-append, length-key_of}
-
-pub walks-at : (it : BlockIter) (rows : List Row) (i : ℕ) → i < length rows → Walks it rows (place_of rows i) → Walks it rows (Some i)
-walks-at it rows i within w = let here = lt-ltb i (length rows) within in rw here at w
 
 pub walks-first : (it : BlockIter) (row : Row) (rest : List Row) → Walks it (row ∷ rest) (place_of (row ∷ rest) 0) → Walks it (row ∷ rest) (Some 0)
 walks-first it row rest w = walks-at it (row ∷ rest) 0 (omega arith) w
@@ -39,13 +37,6 @@ pub record Copied (block : List ℕ) (count : ℕ) (walk : BlockIter) (n : ℕ) 
   pub copied : (rows : List Row) → Reads Entries block rows → length rows ≡ count → rows_of entries ≡ take n rows
   pub seqs : All HasSeq entries
 
--- what a walk shows at the i-th row
-abbrev pub KeyAt : List Row → ℕ → List ℕ → Type 0
-KeyAt rows i key = (row : Row) × (slice_get rows i ≡ Some row) × (key ≡ row.key)
-
-abbrev pub ValueAt : List Row → ℕ → List ℕ → Type 0
-ValueAt rows i value = (row : Row) × (slice_get rows i ≡ Some row) × (value ≡ row.value)
-
 -- a row of a data block has an internal key
 pub internal_at : (block : List ℕ) (rows : List Row) (i : ℕ) (key : List ℕ) → Block Entries block rows → KeyAt rows i key → IsInternalKey key
 internal_at block rows i key is (row, at, same) =
@@ -53,22 +44,6 @@ internal_at block rows i key is (row, at, same) =
     let form : IsRow Entries row =
     subst (λ (r : Row). IsRow Entries r) (get_or_from_slice_get rows i row row at) (All-get_or (IsRow Entries) rows i row within is.forms) in
     subst (λ (k : List ℕ). IsInternalKey k) (sym same) form.1
-
-row_made : (key value : List ℕ) (row : Row) → key ≡ row.key → value ≡ row.value → record { key = key; value = value } ≡ row
-row_made key value row k v = rw (k, v) refl
-
-same_row : (rows : List Row) (i : ℕ) (key value : List ℕ) (made : Row) → KeyAt rows i key → ValueAt rows i value → made ≡ record { key = key; value = value }
-    → slice_get rows i ≡ Some made
-same_row rows i key value made (row, at, k) (other, there, v) is =
-    let same : Some row ≡ Some other = sym at ∙ there in
-    let all : made ≡ other = is ∙ row_made key value other (k ∙ cc) v in
-    there ∙ ap Some (sym all)
-
-one_more : (rows : List Row) (n : ℕ) (row : Row) → slice_get rows n ≡ Some row → take n rows ++ row ∷ [] ≡ take (n + 1) rows
-one_more rows n row at =
-    let within = slice_get_within rows n row at in
-    let is = get_or_from_slice_get rows n row row at in
-    sym (rw (add-one, take-suc rows n row, is) refl)
 
 -- one entry more
 pub copied_more : (block : List ℕ) (rows : List Row) (n : ℕ) (key value : List ℕ) (entries : List Entry) (e : Entry) → rows_of entries ≡ take n rows

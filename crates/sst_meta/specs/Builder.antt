@@ -1,0 +1,30 @@
+-- What a builder of a block of names and values holds between its calls.
+-- RocksDB: PropertyBlockBuilder in table/meta_blocks.h and meta_blocks.cc.
+use Rattle.std.specs.Prelude.{ℕ, ◌⊎◌, ◌^◌, ◌<◌, ◌≤◌, List, [], ◌∷◌, ◌++◌, length}
+use Rattle.sst_block.specs.declared.row_form.RowForm.TheVariants.{Names}
+use Rattle.sst_block.specs.Block.{Row, AreOrdered}
+use Rattle.sst_block.specs.Chosen.{block_of}
+use Rattle.sst_block.specs.Builder as rows
+use Rattle.sst_meta.specs.declared.builder.PropsBuilder.{PropsBuilder}
+
+-- the builder holds these pairs of a name and a value, which were set in this order
+abbrev pub Holds : PropsBuilder → List Row → Type 0
+Holds b pairs = rows.Holds b.rows Names 65536 pairs
+
+-- memory ran out in an earlier call
+abbrev pub HasFailed : PropsBuilder → Type 0
+HasFailed b = rows.HasFailed b.rows
+
+-- the pair may come after those that the builder holds: its name is bytewise after the last and isn't too long, there
+-- are not more than 65,536 names, and the block stays short
+pub record Takes (b : PropsBuilder) (pair : Row) : Type 0 where
+  pub pairs : List Row
+  pub holds : Holds b pairs
+  pub short_name : length pair.key ≤ 65544
+  pub after : AreOrdered Names (pairs ++ pair ∷ [])
+  pub few : length pairs < 65536
+  pub short : length (block_of 65536 (pairs ++ pair ∷ [])) < 2 ^ 29
+
+-- a builder that has failed refuses each pair, and any other takes those that may come next
+abbrev pub CanSet : PropsBuilder → Row → Type 0
+CanSet b pair = HasFailed b ⊎ Takes b pair

@@ -1,0 +1,30 @@
+-- The pairs of a name and a value that a meta block has as its rows.
+-- RocksDB: ParsePropertiesBlock in table/meta_blocks.cc, which keeps them by name in a map; UserCollectedProperties in
+-- include/rocksdb/table_properties.h.
+use Rattle.std.specs.Prelude.{◌≡◌, ℕ, List, [], ◌∷◌, map, Option, None, Some, Bool, if◌then◌else◌, Result, Ok, Err}
+use Rattle.std.specs.Str.{bytes_eq}
+use Rattle.sst_num.specs.declared.stops.Refused.{Refused}
+use Rattle.sst_num.specs.declared.stops.Refused.TheVariants.{Cause, Memory}
+use Rattle.sst_block.specs.declared.row_form.RowForm.TheVariants.{Names}
+use Rattle.sst_block.specs.declared.fault.BlockFault.{BlockFault}
+use Rattle.sst_block.specs.Block.{Row}
+use Rattle.sst_block.specs.Reading.{Reads, block_read}
+use Rattle.sst_meta.specs.declared.pair.Pair.{Pair}
+
+-- a pair as a row
+abbrev pub row_of : Pair → Row
+row_of p = record { key = p.name; value = p.value }
+
+abbrev pub rows_of : List Pair → List Row
+rows_of pairs = map row_of pairs
+
+-- the value of the first row with this name
+abbrev pub value_of : List ℕ → List Row → Option (List ℕ)
+value_of name [] = None
+value_of name (row ∷ rows) = if bytes_eq row.key name then Some row.value else value_of name rows
+
+-- an answer is what was read of a block of names: its rows, or its first fault; want of memory says nothing
+abbrev pub Gives : Result (List Row) (Refused BlockFault) → List ℕ → Type 0
+Gives (Ok pairs) block = Reads Names block pairs
+Gives (Err Memory) block = Unit {0}
+Gives (Err (Cause fault)) block = block_read Names block ≡ Err fault
