@@ -1,4 +1,4 @@
-use crate::meta_fault::MetaFault;
+use sst_meta::MetaFault;
 use sst_block::BlockFault;
 use sst_device::FrameFault;
 use sst_num::Handle;

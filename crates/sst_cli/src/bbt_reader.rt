@@ -13,7 +13,7 @@ mod calls;
 use crate::bbt_fault::BbtFault;
 use crate::block_rows::{count_rows, entries_of, first_row};
 use crate::load::{Loaded, load};
-use crate::meta_fault::MetaFault;
+use sst_meta::MetaFault;
 pub use calls::Cursor;
 use sst_block::RowForm;
 use sst_device::{Folder, FrameFault, draw_framed};

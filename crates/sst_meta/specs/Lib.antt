@@ -1,2 +1,4 @@
 pub mod Builder
 pub mod Pairs
+pub mod Footer
+pub mod FooterReading

@@ -4,7 +4,7 @@
 use super::{BbtReader, open};
 use crate::bbt_fault::BbtFault;
 use crate::fault_text::fault_line;
-use crate::meta_fault::MetaFault;
+use sst_meta::MetaFault;
 use crate::produce::produce;
 use sst_device::{FrameFault, MemFolder, MemIntake};
 use sst_key::Kind;
