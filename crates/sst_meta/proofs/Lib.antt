@@ -4,4 +4,6 @@ pub mod FooterReads
 pub mod Footers
 pub mod HandlesRead
 pub mod Named
+pub mod OneRestart
 pub mod PairsRead
+pub mod Setting

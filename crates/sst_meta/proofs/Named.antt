@@ -1,5 +1,5 @@
 -- The names of a block increase, so each stands once, and halving finds it.
-use Rattle.std.proofs.Common.{◌≡◌, ℕ, zero, suc, ◌<◌, ◌≤◌, false, true, List, [], ◌∷◌, length, Option, None, Some, Result, Ok, Err, IfOk, IfErr, slice_get, slice_index_or, inl, inr, refl, sym, ap, ◌∙◌, subst, arith}
+use Rattle.std.proofs.Common.{◌≡◌, ℕ, zero, suc, ◌<◌, ◌≤◌, if◌then◌else◌, false, true, List, [], ◌∷◌, length, None, Some, Result, Ok, Err, IfOk, IfErr, slice_get, slice_index_or, inl, inr, refl, sym, ap, ◌∙◌, subst, arith}
 use Rattle.std.specs.Prelude.{bytes_eq}
 use Rattle.std.specs.List.Sorted.{IsSearchInRange, IsBinarySearchResult, IsNonDecreasingBy}
 use Rattle.std.specs.Ordering.{nat_cmp, ordering_index}
@@ -9,12 +9,12 @@ use Rattle.std.specs.declared.cmp.Ordering.TheVariants.{Less, Equal, Greater}
 use Rattle.std.proofs.lemmas.Bool.{cases_lt, false_from_ne_true}
 use Rattle.std.proofs.lemmas.Cmp.{nat_list_cmp_total, tied_itself}
 use Rattle.std.proofs.lemmas.Map.Lookups.{exact_bytes}
-use Rattle.std.proofs.lemmas.Option.{slice_get_within, slice_get_cases, get_or_from_slice_get}
+use Rattle.std.proofs.lemmas.Option.{slice_get_within, get_or_from_slice_get}
 use Rattle.std.proofs.lemmas.Slice.Eq.{bytes_eq-Decides}
 use Rattle.sst_block.specs.declared.row_form.RowForm.TheVariants.{Names}
 use Rattle.sst_block.specs.Block.{Row, AreOrdered}
 use Rattle.sst_meta.specs.declared.pair.Pair.{Pair}
-use Rattle.sst_meta.specs.Pairs.{row_of, rows_of, value_of}
+use Rattle.sst_meta.specs.Pairs.{row_of, rows_of, value_of, Has}
 
 abbrev cmp : List ℕ → List ℕ → Ordering
 cmp a b = slice_cmp nat_cmp a b
@@ -142,8 +142,10 @@ searched pairs name (Err at) ordered within parted =
   where
     tied : (p : Pair) (o : Ordering) → p.name ≡ name → cmp p.name name ≡ o → o ≡ Equal
     tied p o same is = sym is ∙ ap (λ (l : List ℕ). cmp l name) same ∙ tied_itself nat_list_cmp_total name
+
     shown : (i : ℕ) (p : Pair) (o : Ordering) → slice_get pairs i ≡ Some p → cmp (slice_index_or pairs i p).name name ≡ o → cmp p.name name ≡ o
     shown i p o is said = sym (ap (λ (q : Pair). cmp q.name name) (get_or_from_slice_get pairs i p p is)) ∙ said
+
     differs_at : (i : ℕ) → NamedAt pairs name i
         → ((k : ℕ) (d : Pair) → 0 ≤ k → k < at → cmp (slice_index_or pairs k d).name name ≡ Less)
         × ((k : ℕ) (d : Pair) → at ≤ k → k < length pairs → cmp (slice_index_or pairs k d).name name ≡ Greater) → ⊥
@@ -165,6 +167,38 @@ got rows pairs lent name at value are ordered same (p, is, named) shown =
 pub got-none : (rows : List Row) (pairs lent : List Pair) (name : List ℕ) → rows_of pairs ≡ rows → lent ≡ pairs → IsNotNamed lent name → None ≡ value_of name rows
 got-none rows pairs lent name are same others =
     let none = value-none name (rows_of pairs) (λ i row at k.
-        let p = pair-at pairs i row at in
-        others i p.0 (ap (λ (l : List Pair). slice_get l i) same ∙ p.1) (ap (λ (r : Row). r.key) p.2 ∙ k)) in
+    let p = pair-at pairs i row at in
+    others i p.0 (ap (λ (l : List Pair). slice_get l i) same ∙ p.1) (ap (λ (r : Row). r.key) p.2 ∙ k)) in
     sym none ∙ ap (value_of name) are
+
+made : (name value : List ℕ) (row : Row) → row.key ≡ name → row.value ≡ value → row ≡ record { key = name; value = value }
+made name value row k v = rw (sym k, sym v) refl
+
+-- a value is that of a row with the name
+pub value-shown : (name : List ℕ) (rows : List Row) (value : List ℕ) → value_of name rows ≡ Some value → Has rows (record { key = name; value = value })
+value-shown name [] value e = cc
+value-shown name (a ∷ rest) value e =
+    elim (bytes_eq a.key name) as (λ b. bytes_eq a.key name ≡ b → (if b then Some a.value else value_of name rest) ≡ Some value
+    → Has (a ∷ rest) (record { key = name; value = value })) [
+      | true ↦ λ same said. let v : a.value ≡ value = cc in (0, ap Some (made name value a ((bytes_eq-Decides a.key name).0 same) v))
+      | false ↦ λ same said. let there = value-shown name rest value said in (suc there.0, there.1)
+    ] refl e
+
+not-first : (name : List ℕ) (a row : Row) → Some a ≡ Some row → row.key ≡ name → bytes_eq a.key name ≡ false → ⊥
+not-first name a row first same other =
+    let is : a ≡ row = cc in
+    let named = (bytes_eq-Decides a.key name).1 (ap (λ (r : Row). r.key) is ∙ same) in
+    cc
+
+no-value : (name : List ℕ) (a : Row) (rest : List Row) → value_of name (a ∷ rest) ≡ None → (bytes_eq a.key name ≡ false) × (value_of name rest ≡ None)
+no-value name a rest e =
+    elim (bytes_eq a.key name) as (λ b. (if b then Some a.value else value_of name rest) ≡ None → (b ≡ false) × (value_of name rest ≡ None)) [
+      | true ↦ λ said. cc
+      | false ↦ λ said. (refl, said)
+    ] e
+
+-- where there is no value, no row has the name
+pub value-missing : (name : List ℕ) (rows : List Row) (i : ℕ) (row : Row) → value_of name rows ≡ None → slice_get rows i ≡ Some row → row.key ≡ name → ⊥
+value-missing name [] i row e at same = cc
+value-missing name (a ∷ rest) zero row e at same = not-first name a row at same (no-value name a rest e).0
+value-missing name (a ∷ rest) (suc i) row e at same = value-missing name rest i row (no-value name a rest e).1 at same

@@ -1,6 +1,5 @@
 -- The pairs of a block of names as a walk over its rows gives them.
-use Rattle.std.proofs.Common.{◌≡◌, ℕ, ◌+◌, ◌≤◌, ◌^◌, List, [], ◌∷◌, ◌++◌, length, take, map, Result, Ok, Err, refl, sym, ap, ◌∙◌, subst}
-use Rattle.std.specs.Result.{IfOk}
+use Rattle.std.proofs.Common.{◌≡◌, ℕ, ◌+◌, ◌≤◌, ◌^◌, List, [], ◌∷◌, ◌++◌, length, take, map, Ok, Err, refl, sym, ap, ◌∙◌, subst}
 use Rattle.std.proofs.lemmas.List.{take_all, map-append, length-map}
 use Rattle.sst_num.specs.declared.stops.Refused.{Refused}
 use Rattle.sst_num.specs.declared.stops.Refused.TheVariants.{Cause, Memory}
@@ -11,6 +10,7 @@ use Rattle.sst_block.specs.Block.{Row, Spelled, Block, AreOrdered}
 use Rattle.sst_block.specs.Iter.{Walks, place_of}
 use Rattle.sst_block.specs.Reading.{Reads, Gives, block_read}
 use Rattle.sst_block.proofs.BlockRead.{read-sound}
+use Rattle.sst_block.proofs.OneReading.{one-list, no-rows}
 use Rattle.sst_block.proofs.RowsCopied.{KeyAt, ValueAt, same_row, one_more}
 use Rattle.sst_meta.specs.declared.pair.Pair.{Pair}
 use Rattle.sst_meta.specs.Pairs.{row_of, rows_of}
@@ -49,3 +49,14 @@ all_stand block pairs short reads = read-sound Names block (rows_of pairs) tt sh
 
 pub all_ordered : (block : List ℕ) (pairs : List Pair) → length block ≤ 2 ^ 29 → Reads Names block (rows_of pairs) → AreOrdered Names (rows_of pairs)
 all_ordered block pairs short reads = (all_stand block pairs short reads).ordered
+
+-- a block that stands for some pairs is read as these
+pub same_pairs : (block : List ℕ) (pairs : List Pair) (rows : List Row) → length block ≤ 2 ^ 29 → Reads Names block (rows_of pairs) → Block Names block rows
+    → rows_of pairs ≡ rows
+same_pairs block pairs rows short reads stands = one-list Names block (rows_of pairs) rows (all_stand block pairs short reads) stands
+
+-- and isn't refused but for want of memory
+pub only_memory : (block : List ℕ) (refused : Refused BlockFault) (rows : List Row) → Gives (Err refused) (block_read Names block) → Block Names block rows
+    → refused ≡ Memory
+only_memory block Memory rows given stands = refl
+only_memory block (Cause fault) rows given stands = absurd (no-rows Names block fault rows tt given stands)

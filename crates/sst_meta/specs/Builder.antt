@@ -1,6 +1,6 @@
 -- What a builder of a block of names and values holds between its calls.
 -- RocksDB: PropertyBlockBuilder in table/meta_blocks.h and meta_blocks.cc.
-use Rattle.std.specs.Prelude.{ℕ, ◌⊎◌, ◌^◌, ◌<◌, ◌≤◌, List, [], ◌∷◌, ◌++◌, length}
+use Rattle.std.specs.Prelude.{◌⊎◌, ◌^◌, ◌<◌, ◌≤◌, List, [], ◌∷◌, ◌++◌, length}
 use Rattle.sst_block.specs.declared.row_form.RowForm.TheVariants.{Names}
 use Rattle.sst_block.specs.Block.{Row, AreOrdered}
 use Rattle.sst_block.specs.Chosen.{block_of}

@@ -1,8 +1,7 @@
 -- The pairs of a name and a value that a meta block has as its rows.
 -- RocksDB: ParsePropertiesBlock in table/meta_blocks.cc, which keeps them by name in a map; UserCollectedProperties in
 -- include/rocksdb/table_properties.h.
-use Rattle.std.specs.Prelude.{◌≡◌, ℕ, List, [], ◌∷◌, map, Option, None, Some, Bool, if◌then◌else◌, Result, Ok, Err}
-use Rattle.std.specs.Str.{bytes_eq}
+use Rattle.std.specs.Prelude.{◌≡◌, ℕ, List, [], ◌∷◌, map, Option, None, Some, slice_get, bytes_eq, if◌then◌else◌, Result, Ok, Err}
 use Rattle.sst_num.specs.declared.stops.Refused.{Refused}
 use Rattle.sst_num.specs.declared.stops.Refused.TheVariants.{Cause, Memory}
 use Rattle.sst_block.specs.declared.row_form.RowForm.TheVariants.{Names}
@@ -17,6 +16,10 @@ row_of p = record { key = p.name; value = p.value }
 
 abbrev pub rows_of : List Pair → List Row
 rows_of pairs = map row_of pairs
+
+-- the row is one of the rows
+abbrev pub Has : List Row → Row → Type 0
+Has rows row = (i : ℕ) × (slice_get rows i ≡ Some row)
 
 -- the value of the first row with this name
 abbrev pub value_of : List ℕ → List Row → Option (List ℕ)

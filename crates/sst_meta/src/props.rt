@@ -1,5 +1,5 @@
-ghost use Rattle.std.specs.Prelude.{◌≡◌, ℕ, ◌<◌, ◌≤◌, ◌^◌, List, length, Some, Err, IfOk, IfErr, option_map, slice_get};
-ghost use Rattle.sst_num.specs.declared.stops.Refused.TheVariants.{Cause};
+ghost use Rattle.std.specs.Prelude.{◌≡◌, ◌⊎◌, ℕ, ◌<◌, ◌≤◌, ◌^◌, List, length, Some, Ok, Err, IfOk, IfErr, option_map, slice_get};
+ghost use Rattle.sst_num.specs.declared.stops.Refused.TheVariants as refused;
 ghost use Rattle.sst_block.specs.declared.row_form.RowForm.TheVariants.{Names};
 ghost use Rattle.sst_block.specs.declared.fault.BlockFault as faults;
 ghost use Rattle.sst_block.specs.Block.{Row, Block, AreOrdered};
@@ -48,8 +48,9 @@ impl Props {
     pub fn read(alloc: Global, block: &[u8]) -> Result<Props, Refused<BlockFault>>
         requires { length block.now ≤ 2 ^ 29 }
         ensures accepts { IfOk result (λ pairs. Block Names block.now pairs) }
-        ensures refuses { (fault : faults.BlockFault) → result ≡ Err (Cause fault)
+        ensures refuses { (fault : faults.BlockFault) → result ≡ Err (refused.Cause fault)
             → IsFirstFault Names block.now fault × ((rows : List Row) → Block Names block.now rows → ⊥) }
+        ensures back { (pairs : List Row) → Block Names block.now pairs → (result ≡ Ok pairs) ⊎ (result ≡ Err refused.Memory) }
         ensures exact { Gives result block.now }
     {
         match check_block(alloc, block, RowForm::Names) {
@@ -74,9 +75,10 @@ impl Props {
         }
     }
 
-    /// How many names there are.
+    /// How many names there are. They are in order.
     pub fn len(&self) -> usize
-        ensures { result ≡ length self.now }
+        ensures exact { result ≡ length self.now }
+        ensures ordered { AreOrdered Names self.now }
     {
         self.pairs.len()
     }

@@ -1,4 +1,4 @@
-use Rattle.std.proofs.Common.{ap, sym, ◌∙◌}
+use Rattle.std.proofs.Common.{ap, ◌∙◌}
 use Rattle.std.proofs.lemmas.Option.{get_or_from_slice_get}
 use Rattle.sst_meta.specs.declared.pair.Pair.{Pair}
 use Rattle.sst_meta.proofs.Named.{got, got-none}
