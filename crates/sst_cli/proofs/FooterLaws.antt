@@ -72,14 +72,16 @@ leads-read file footer e =
       | fields kind version between ends e ↦
           by_version-cases kind version between (Ok footer) e (λ _ e. cc) (λ _ _ e. cc)
           (λ built is e.
-          let found = with-handles version kind between (handles_read between) footer refl e in
-          (record {
-            version = version;
-            between = between;
-            ends = subst (λ k. EndsIn file (length file - 53) k version between) is ends;
-            built = built;
-            handles = found.0;
-          }, found.1 ∙ ap (λ (k : ℕ). footer_by version k footer.meta footer.index) is))
+          let found = with-handles version kind between (handles_read between) footer refl e in (
+            record {
+              version = version;
+              between = between;
+              ends = subst (λ k. EndsIn file (length file - 53) k version between) is ends;
+              built = built;
+              handles = found.0;
+            },
+            found.1 ∙ ap (λ (k : ℕ). footer_by version k footer.meta footer.index) is,
+          ))
       | legacy ends e ↦ cc
       | other ends e ↦ cc
       | none not e ↦ cc

@@ -1,5 +1,5 @@
 -- What the end of a file is read as: the fields of a footer, another kind of table, or none.
-use Rattle.std.proofs.Common.{◌≡◌, ℕ, ◌+◌, ◌-◌, ◌^◌, ◌<◌, ◌≤◌, ◌==◌, ◌&&◌, nat_le, get_or, Bool, true, false, List, [], ◌∷◌, ◌++◌, length, take, drop, Option, None, Some, Result, Err, refl, sym, ap, subst, ◌∙◌, inl, inr, length-append, length-drop, append_assoc, arith}
+use Rattle.std.proofs.Common.{◌≡◌, ℕ, ◌+◌, ◌-◌, ◌^◌, ◌<◌, ◌≤◌, ◌==◌, ◌&&◌, nat_le, get_or, Bool, true, false, List, [], ◌∷◌, ◌++◌, length, take, drop, Option, None, Some, Result, Err, refl, sym, ap, subst, ◌∙◌, inl, inr, length-append, length-drop, arith}
 use Rattle.std.specs.Option.{option_map}
 use Rattle.std.proofs.lemmas.Bool.{le-leb, eq-eqb, both_ways, and_from}
 use Rattle.std.proofs.lemmas.List.{drop-drop, length-take-le, get_or-drop}
@@ -9,9 +9,8 @@ use Rattle.sst_num.specs.Reading.{fixed_at}
 use Rattle.sst_num.proofs.Fixed.{length-fixed}
 use Rattle.sst_num.proofs.FixedAt.{fixed_at-found, fixed_at-joined}
 use Rattle.sst_key.specs.declared.calls.Format.{Format}
-use Rattle.sst_key.specs.declared.calls.Format.TheVariants as Format
 use Rattle.sst_meta.specs.Footer.{block_based_magic, legacy_block_based_magic, plain_magic, legacy_plain_magic, cuckoo_magic, magic_of, footer_length}
-use Rattle.sst_meta.specs.FooterReading.{last_bytes, number_at_end, kind_of, kind_by, kind_at, fields_read, by_version, later_read, by_kind, footer_read}
+use Rattle.sst_meta.specs.FooterReading.{last_bytes, number_at_end, kind_by, kind_at, fields_read, by_version, later_read, by_kind, footer_read}
 use Rattle.sst_meta.specs.declared.footer.Footer.{Footer}
 use Rattle.sst_meta.specs.declared.meta_fault.MetaFault.{MetaFault}
 use Rattle.sst_meta.specs.declared.meta_fault.MetaFault.TheVariants.{NotTable, Version, NotYet}

@@ -12,7 +12,6 @@ use Rattle.sst_block.specs.Block.{Row, Spelled}
 use Rattle.sst_block.specs.Reading.{block_read}
 use Rattle.sst_device.specs.FrameReading.{frame_read}
 use Rattle.sst_key.specs.declared.calls.Format.{Format}
-use Rattle.sst_key.specs.declared.calls.Format.TheVariants as Format
 use Rattle.sst_meta.specs.FooterReading.{footer_read, format_at, last_bytes}
 use Rattle.sst_device.specs.declared.frame.FrameFault.{FrameFault}
 use Rattle.sst_meta.specs.declared.footer.Footer.{Footer}

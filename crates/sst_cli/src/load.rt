@@ -116,9 +116,7 @@ fn without_names(alloc: Global, block: &[u8], footer: Footer) -> Result<Handle, 
     match check_block(alloc, block, RowForm::Names) {
         Ok(0) => Ok(footer.index),
         Ok(_) => Err(Stop::Damage(MetaFault::NotYet)),
-        Err(Refused::Cause(fault)) => {
-            Err(Stop::Damage(MetaFault::Block(footer.meta, fault)))
-        }
+        Err(Refused::Cause(fault)) => { Err(Stop::Damage(MetaFault::Block(footer.meta, fault))) }
         Err(Refused::Memory) => Err(Stop::Memory),
     }
 }

@@ -1,11 +1,11 @@
 -- The kinds of table by the magic number at the end.
-use Rattle.std.proofs.Common.{◌≡◌, ℕ, ◌≤◌, ◌==◌, ◌&&◌, nat_le, Bool, true, false, List, length, Option, None, Some, sym, ap, refl, subst, ◌∙◌}
+use Rattle.std.proofs.Common.{◌≡◌, ℕ, ◌≤◌, ◌==◌, ◌&&◌, nat_le, Bool, true, false, List, length, Option, None, Some, subst}
 use Rattle.std.proofs.lemmas.Bool.{and_parts, eqb-true, leb-true}
 use Rattle.sst_key.specs.declared.calls.Format.{Format}
 use Rattle.sst_key.specs.declared.calls.Format.TheVariants.{Block, Plain, Cuckoo}
 use Rattle.sst_device.proofs.Choices.{by_test}
 use Rattle.sst_meta.specs.Footer.{block_based_magic, legacy_block_based_magic, plain_magic, legacy_plain_magic, cuckoo_magic, magic_of, footer_length}
-use Rattle.sst_meta.specs.FooterReading.{number_at_end, other_kind_of, kind_of, kind_by, kind_at}
+use Rattle.sst_meta.specs.FooterReading.{number_at_end, kind_of, kind_by, kind_at}
 
 -- a test of the magic number and the length
 abbrev pub kind_test : ℕ → ℕ → ℕ → ℕ → Bool

@@ -1,15 +1,14 @@
 -- What is put as a footer is read back.
-use Rattle.std.proofs.Common.{◌≡◌, ℕ, ◌-◌, ◌+◌, ◌^◌, ◌<◌, ◌≤◌, Bool, true, false, List, ◌∷◌, ◌++◌, length, drop, take, replicate, Some, Ok, Err, refl, sym, ap, subst, ◌∙◌, length-append, append_assoc, arith}
+use Rattle.std.proofs.Common.{◌≡◌, ℕ, ◌-◌, ◌^◌, ◌<◌, Bool, true, false, List, ◌∷◌, ◌++◌, length, drop, Some, Ok, Err, refl, sym, ap, ◌∙◌, length-append, append_assoc, arith}
 use Rattle.std.proofs.lemmas.List.{take_at, drop_at, length-replicate}
 use Rattle.sst_num.specs.Spelling.{fixed, handle_spelling}
-use Rattle.sst_num.specs.Reading.{fixed_at}
 use Rattle.sst_num.specs.declared.block_handle.Handle.{Handle}
 use Rattle.sst_num.proofs.Fixed.{length-fixed}
 use Rattle.sst_num.proofs.FixedAt.{fixed_at-fixed}
 use Rattle.sst_key.specs.declared.calls.Format.{Format}
 use Rattle.sst_key.specs.declared.calls.Format.TheVariants.{Block, Plain, Cuckoo}
 use Rattle.sst_meta.specs.Footer.{magic_of, two_handles, handle_zeros, footer_spelling, IsWritable, AreHandles}
-use Rattle.sst_meta.specs.FooterReading.{last_bytes, number_at_end, kind_of, kind_by, kind_at, handles_read, takes_version, takes_checksum, fields_read, by_version, later_read, legacy_checksum, legacy_read, by_kind, footer_read}
+use Rattle.sst_meta.specs.FooterReading.{last_bytes, kind_of, kind_by, kind_at, handles_read, takes_version, takes_checksum, fields_read, later_read, legacy_checksum, legacy_read, by_kind, footer_read}
 use Rattle.sst_meta.specs.declared.footer.Footer.{Footer}
 use Rattle.sst_meta.specs.declared.meta_fault.MetaFault.TheVariants.{Version}
 use Rattle.sst_meta.proofs.FileEnds.{last_bytes-joined, number_at_end-fixed}

@@ -1,3 +1,5 @@
+ghost use Rattle.std.specs.Prelude.{◌≡◌};
+
 use crate::footer::{Footer, format_of, put_footer, read_footer};
 use crate::meta_fault::MetaFault;
 use sst_key::Format;
@@ -5,7 +7,12 @@ use sst_num::Handle;
 use std::test::Fail;
 
 // A footer by its parts; the metaindex has 8 bytes at 50, the index 30 at 63.
-fn footer_with(format: Format, legacy: bool, version: u32, checksum: u8) -> Footer {
+fn footer_with(format: Format, legacy: bool, version: u32, checksum: u8) -> Footer
+    ensures format { result.format ≡ format }
+    ensures legacy { result.legacy ≡ legacy }
+    ensures version { result.version ≡ version }
+    ensures checksum { result.checksum ≡ checksum }
+{
     Footer {
         format,
         legacy,
@@ -31,20 +38,7 @@ fn a_block_based_footer(rt: HostRuntime) -> Result<(), Fail> {
     bytes.extend_from_slice(&[
         0x02, 0x00, 0x00, 0x00, 0xf7, 0xcf, 0xf4, 0x85, 0xb7, 0x41, 0xe2, 0x88,
     ])?;
-    let f = Footer {
-        format: Format::Block,
-        legacy: false,
-        version: 2,
-        checksum: 1,
-        meta: Handle {
-            offset: 50,
-            size: 8,
-        },
-        index: Handle {
-            offset: 63,
-            size: 30,
-        },
-    };
+    let f = footer_with(Format::Block, false, 2, 1);
     let mut out = Vec::new(rt.alloc());
     put_footer(&mut out, &f)?;
     assert_eq!(rt; out.as_slice(), bytes.as_slice());

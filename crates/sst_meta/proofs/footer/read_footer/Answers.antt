@@ -1,4 +1,4 @@
-use Rattle.std.proofs.Common.{◌≡◌, ℕ, ◌≤◌, true, false, length, Some, sym, ◌∙◌}
+use Rattle.std.proofs.Common.{true, false}
 use Rattle.sst_meta.proofs.FooterKinds.{kind_at-long}
 use Rattle.sst_meta.proofs.footer.read_footer.Goals as goal
 
