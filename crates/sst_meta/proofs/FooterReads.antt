@@ -92,6 +92,20 @@ length-between metaindex index =
       length-replicate {A = ℕ} (40 - length (two_handles metaindex index)) 0,
     )
 
+-- a legacy footer that is put is read as its fields
+legacy-put : (format : Format) (version checksum : ℕ) (metaindex index : Handle) → kind_of (magic_of format true) 48 ≡ Some (format, true)
+    → version ≡ 0 → checksum ≡ legacy_checksum format
+    → footer_read (footer_spelling (record { format = format; legacy = true; version = version; checksum = checksum; meta = metaindex; index = index }))
+    ≡ fields_read format true version checksum (two_handles metaindex index ++ handle_zeros metaindex index)
+unfolding footer_spelling
+legacy-put format version checksum metaindex index is zero_is sum =
+    let front : List ℕ = two_handles metaindex index in
+    let zeros : List ℕ = handle_zeros metaindex index in
+    ap footer_read (sym (append_assoc front zeros (fixed 8 (magic_of format true))))
+    ∙ legacy-reads format (front ++ zeros) (length-between metaindex index) is
+    ∙ ap (λ (n : ℕ). fields_read format true n (legacy_checksum format) (front ++ zeros)) (sym zero_is)
+    ∙ ap (λ (n : ℕ). fields_read format true version n (front ++ zeros)) (sym sum)
+
 -- a footer that is put is read as its fields
 put-reads : (format : Format) (legacy : Bool) (version checksum : ℕ) (metaindex index : Handle) → IsWritable format legacy version checksum → version < 2 ^ 32
     → footer_read (footer_spelling (record { format = format; legacy = legacy; version = version; checksum = checksum; meta = metaindex; index = index }))
@@ -103,18 +117,8 @@ put-reads format false version checksum metaindex index writable small =
     let back : List ℕ = fixed 4 version ++ fixed 8 (magic_of format false) in
     ap (λ (l : List ℕ). footer_read (checksum ∷ l)) (sym (append_assoc front zeros back))
     ∙ (later-reads format checksum version (front ++ zeros) (length-between metaindex index) small).read
-put-reads Block true version checksum metaindex index (zero_is, one) small =
-    let front : List ℕ = two_handles metaindex index in
-    let zeros : List ℕ = handle_zeros metaindex index in
-    ap footer_read (sym (append_assoc front zeros (fixed 8 (magic_of Block true))))
-    ∙ legacy-reads Block (front ++ zeros) (length-between metaindex index) refl
-    ∙ ap (λ (n : ℕ). fields_read Block true n 1 (front ++ zeros)) (sym zero_is) ∙ ap (λ (n : ℕ). fields_read Block true version n (front ++ zeros)) (sym one)
-put-reads Plain true version checksum metaindex index (zero_is, none) small =
-    let front : List ℕ = two_handles metaindex index in
-    let zeros : List ℕ = handle_zeros metaindex index in
-    ap footer_read (sym (append_assoc front zeros (fixed 8 (magic_of Plain true))))
-    ∙ legacy-reads Plain (front ++ zeros) (length-between metaindex index) refl
-    ∙ ap (λ (n : ℕ). fields_read Plain true n 0 (front ++ zeros)) (sym zero_is) ∙ ap (λ (n : ℕ). fields_read Plain true version n (front ++ zeros)) (sym none)
+put-reads Block true version checksum metaindex index (zero_is, one) small = legacy-put Block version checksum metaindex index refl zero_is one
+put-reads Plain true version checksum metaindex index (zero_is, none) small = legacy-put Plain version checksum metaindex index refl zero_is none
 put-reads Cuckoo true version checksum metaindex index writable small = absurd writable
 
 writable-checksum : (format : Format) (legacy : Bool) (version checksum : ℕ) → IsWritable format legacy version checksum → takes_checksum format checksum ≡ true

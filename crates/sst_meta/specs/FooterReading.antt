@@ -19,8 +19,8 @@ last_bytes n bytes = drop (length bytes - n) bytes
 unfoldable pub number_at_end : List ℕ → Option ℕ
 number_at_end tail = if nat_lt (length tail) 8 then None else fixed_at 8 (last_bytes 8 tail)
 
--- the format of a file with this magic number and so many bytes at least, and whether its footer is legacy. Legacy
--- footers have 48 bytes, the others 53.
+-- The format of a file with this magic number and so many bytes at least, and whether its footer is legacy. Legacy
+-- footers have 48 bytes, the others 53. First of tables that aren't block-based, then of all.
 abbrev pub other_kind_of : ℕ → ℕ → Option (Format × Bool)
 other_kind_of magic size =
     if magic == plain_magic && nat_le 53 size then Some (Plain, false)
@@ -34,6 +34,7 @@ kind_of magic size =
     else if magic == legacy_block_based_magic && nat_le 48 size then Some (Block, true)
     else other_kind_of magic size
 
+-- the same where there is a number
 abbrev pub kind_by : ℕ → Option ℕ → Option (Format × Bool)
 kind_by size None = None
 kind_by size (Some magic) = kind_of magic size
@@ -51,6 +52,7 @@ abbrev pub second_handle : Handle → Option (Handle × ℕ) → Option (Handle 
 second_handle metaindex None = None
 second_handle metaindex (Some index) = Some (metaindex, index.0)
 
+-- the same before the first is looked at
 abbrev pub handles_after : List ℕ → Option (Handle × ℕ) → Option (Handle × Handle)
 handles_after bytes None = None
 handles_after bytes (Some metaindex) = second_handle metaindex.0 (handle_at (drop metaindex.1 bytes))
@@ -83,11 +85,13 @@ fields_read format legacy version checksum between =
     then (if takes_checksum format checksum then as_footer format legacy version checksum (handles_read between) else Err (ChecksumType checksum))
     else Err (Version version)
 
--- a footer of 53 bytes: the checksum type, 40 bytes with the handles, the version, the magic number
+-- a footer of 53 bytes: the checksum type, 40 bytes with the handles, the version, the magic number. One whose version
+-- isn't a number of bytes is none.
 abbrev pub by_version : Format → ℕ → List ℕ → Option ℕ → Result Footer MetaFault
 by_version format checksum between None = Err NotTable
 by_version format checksum between (Some version) = fields_read format false version checksum between
 
+-- the same by all 53 bytes
 abbrev pub later_read : Format → List ℕ → Result Footer MetaFault
 later_read format [] = Err NotTable
 later_read format (checksum ∷ rest) = by_version format checksum (take 40 rest) (fixed_at 4 (drop 40 rest))
@@ -102,6 +106,7 @@ legacy_checksum Cuckoo = 0
 abbrev pub legacy_read : Format → List ℕ → Result Footer MetaFault
 legacy_read format bytes = fields_read format true 0 (legacy_checksum format) (take 40 bytes)
 
+-- what follows from the kind of file that the bytes end
 abbrev pub by_kind : List ℕ → Option (Format × Bool) → Result Footer MetaFault
 by_kind tail None = Err NotTable
 by_kind tail (Some kind) = if kind.1 then legacy_read kind.0 (last_bytes 48 tail) else later_read kind.0 (last_bytes 53 tail)
