@@ -14,7 +14,7 @@ use Rattle.sst_cli.proofs.Separated.{opens-seqs, row_blocks-one, stands-text}
 use Rattle.sst_cli.specs.TableBlocks.{blocks_in, row_blocks_of}
 use Rattle.sst_cli.specs.Way.{IndexedBlock}
 use Rattle.sst_cli.proofs.FaultsShown.{open_read-fault}
-use Rattle.sst_cli.proofs.FileEnds.{IsBytes-drop}
+use Rattle.sst_cli.proofs.FootersRead.{IsBytes-drop}
 use Rattle.sst_cli.specs.CallsRun.{IsFileText, IsAnswered, Answered, AnsweredByWay, IsDamaged, IsAnswersText, IsInputText, IsCallsText, file_status}
 use Rattle.sst_cli.specs.FaultText.{fault_text}
 use Rattle.sst_cli.specs.Opening.{RowBlock, blocks_read}

@@ -6,14 +6,14 @@ use Rattle.hex.specs.Hex.{IsBytes}
 use Rattle.sst_num.specs.declared.block_handle.Handle.{Handle}
 use Rattle.sst_block.specs.declared.row_form.RowForm.TheVariants.{Entries, Names, Index}
 use Rattle.sst_block.specs.Block.{Row, IsRow}
-use Rattle.sst_cli.specs.FooterReading.{last_bytes, footer_read}
-use Rattle.sst_cli.specs.Opening.{then_open, as_fault, block_at, without_names, names_read, footer_start, meta_read, with_rows, data_read, led_to, runs_read, open_read}
+use Rattle.sst_meta.specs.FooterReading.{last_bytes}
+use Rattle.sst_cli.specs.Opening.{then_open, end_read, as_fault, block_at, without_names, names_read, footer_start, meta_read, with_rows, data_read, led_to, runs_read, open_read}
 use Rattle.sst_cli.specs.Shows.{FooterLeads, HasIndex, IndexLeads, ShowsMeta, Shows}
 use Rattle.sst_cli.specs.declared.bbt_fault.BbtFault.{BbtFault}
 use Rattle.sst_cli.specs.declared.bbt_fault.BbtFault.TheVariants as bbt
-use Rattle.sst_cli.specs.declared.footer.Footer.{Footer}
-use Rattle.sst_cli.specs.declared.meta_fault.MetaFault.{MetaFault}
-use Rattle.sst_cli.specs.declared.meta_fault.MetaFault.TheVariants as meta
+use Rattle.sst_meta.specs.declared.footer.Footer.{Footer}
+use Rattle.sst_meta.specs.declared.meta_fault.MetaFault.{MetaFault}
+use Rattle.sst_meta.specs.declared.meta_fault.MetaFault.TheVariants as meta
 use Rattle.sst_cli.proofs.BlocksRead.{RowsAt, block_at-found, block_at-fault}
 use Rattle.sst_cli.proofs.FooterLaws.{leads-read, footer_read-fault}
 use Rattle.sst_cli.proofs.OpensRead.{meta_read-found, handle-of_row}
@@ -21,23 +21,23 @@ use Rattle.sst_device.proofs.Choices.{by_test}
 use Rattle.sst_cli.proofs.ReadSteps.{then_open-err, as_fault-ok, as_fault-err}
 
 -- a metaindex with a row isn't read yet
-names-fault : (file : List ℕ) (footer : Footer) (rows : List Row) (fault : MetaFault) → FooterLeads file (footer_start file) footer.metaindex footer.index
-    → RowsAt Names file (footer_start file) footer.metaindex rows → without_names footer rows ≡ Err fault → ShowsMeta file fault
+names-fault : (file : List ℕ) (footer : Footer) (rows : List Row) (fault : MetaFault) → FooterLeads file (footer_start file) footer.meta footer.index
+    → RowsAt Names file (footer_start file) footer.meta rows → without_names footer rows ≡ Err fault → ShowsMeta file fault
 names-fault file footer [] fault leads at e = cc
 names-fault file footer (row ∷ rest) fault leads at e =
     let same : meta.NotYet ≡ fault = cc in
-    subst (λ f. ShowsMeta file f) same (inr (inl (footer_start file, footer.metaindex, at.bytes, row, rest, (footer.index, leads), at.framed, at.block)))
+    subst (λ f. ShowsMeta file f) same (inr (inl (footer_start file, footer.meta, at.bytes, row, rest, (footer.index, leads), at.framed, at.block)))
 
 -- a fault of the footer or of the metaindex
 pub meta_read-fault : (file : List ℕ) (fault : MetaFault) → IsBytes (last_bytes 53 file) → meta_read file ≡ Err fault → ShowsMeta file fault
 unfolding meta_read
 meta_read-fault file fault bytes e =
-    by_test (nat_lt (length file) (2 ^ 40)) (then_open (footer_read (last_bytes 53 file)) (names_read file (footer_start file))) _ (Err fault) e
-    (λ short e. then_open-err (footer_read (last_bytes 53 file)) _ fault e
+    by_test (nat_lt (length file) (2 ^ 40)) (then_open (end_read (last_bytes 53 file)) (names_read file (footer_start file))) _ (Err fault) e
+    (λ short e. then_open-err (end_read (last_bytes 53 file)) _ fault e
     (λ first. footer_read-fault file fault bytes first)
     (λ footer read e.
-    let leads = leads-read file footer read in
-    let h = footer.metaindex in
+    let leads = (leads-read file footer read).0 in
+    let h = footer.meta in
     then_open-err (block_at meta.Frame (meta.Block h) Names file (footer_start file) h) _ fault e
     (λ first. block_at-fault meta.Frame (meta.Block h) Names file (footer_start file) h fault first
     (λ f is same. subst (λ f. ShowsMeta file f) same (footer_start file, h, (footer.index, leads), is))

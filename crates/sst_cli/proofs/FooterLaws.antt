@@ -1,118 +1,94 @@
 -- What the end of a file is read as is what its footer says, and a fault of it is one that it shows.
-use Rattle.std.proofs.Common.{◌≡◌, ◌≢◌, ℕ, ◌-◌, ◌==◌, ◌||◌, nat_lt, List, ◌++◌, length, drop, Option, None, Some, Result, Ok, Err, refl, sym, ap, subst, ◌∙◌, inl, inr}
-use Rattle.std.proofs.lemmas.Bool.{cases_lt, lt-ltb, le-ltb, eqb-true, eqb-false, both_ways, or_cases, or_left, or_right}
-use Rattle.std.proofs.lemmas.List.{drop_at}
+use Rattle.std.proofs.Common.{◌≡◌, ◌≢◌, ℕ, ◌-◌, ◌==◌, ◌&&◌, nat_le, true, false, List, length, Option, None, Some, Result, Ok, Err, refl, ap, subst, ◌∙◌, inl, inr}
+use Rattle.std.proofs.lemmas.Bool.{eqb-true, eqb-false, both_ways, and_parts, and_from, leb-true, le-leb}
 use Rattle.hex.specs.Hex.{IsBytes}
-use Rattle.sst_num.specs.Spelling.{handle_spelling}
-use Rattle.sst_num.specs.Reading.{handle_at}
 use Rattle.sst_num.specs.declared.block_handle.Handle.{Handle}
-use Rattle.sst_num.proofs.Reading.{handle_at-handle, handle_at-found}
-use Rattle.sst_cli.specs.FooterReading.{last_bytes, second_handle, handles_after, handles_read, by_version, footer_read}
-use Rattle.sst_cli.specs.Shows.{EndsIn, AreHandles, IsBuilt, FooterLeads, ShowsMeta}
-use Rattle.sst_cli.specs.declared.footer.Footer.{Footer}
-use Rattle.sst_cli.specs.declared.meta_fault.MetaFault.{MetaFault}
-use Rattle.sst_cli.specs.declared.meta_fault.MetaFault.TheVariants.{NotTable, Version, ChecksumType, BadFooter, NotYet}
-use Rattle.sst_cli.proofs.FootersRead.{fields, legacy, other, none, end_reads, footer_read-ends}
+use Rattle.sst_key.specs.declared.calls.Format.TheVariants as Format
+use Rattle.sst_meta.specs.Footer.{AreHandles}
+use Rattle.sst_meta.specs.FooterReading.{last_bytes, handles_read, as_footer, takes_version, fields_read}
+use Rattle.sst_meta.specs.declared.footer.Footer.{Footer}
+use Rattle.sst_meta.specs.declared.meta_fault.MetaFault.{MetaFault}
+use Rattle.sst_meta.specs.declared.meta_fault.MetaFault.TheVariants.{NotTable, Version, ChecksumType, BadFooter, NotYet}
+use Rattle.sst_meta.proofs.HandlesRead.{handles_read-spelled, handles_read-found}
+use Rattle.sst_meta.proofs.FooterReads.{fields-taken}
+use Rattle.sst_cli.specs.Meta.{block_footer}
+use Rattle.sst_cli.specs.Opening.{end_read}
+use Rattle.sst_cli.specs.Shows.{EndsIn, IsBuilt, FooterLeads, ShowsMeta}
+use Rattle.sst_cli.proofs.FootersRead.{fields, legacy, other, none, end_reads, end_read-ends}
 use Rattle.sst_device.proofs.Choices.{by_test}
 
--- two handles are read from their spellings
-handles_read-spelled : (metaindex index : Handle) (between : List ℕ) → AreHandles metaindex index between
-    → handles_read between ≡ Ok (record { metaindex = metaindex; index = index })
-unfolding handles_read
-handles_read-spelled metaindex index between are =
-    let rest : List ℕ = handle_spelling index ++ are.4.0 in
-    let first : handle_at between ≡ Some (metaindex, length (handle_spelling metaindex)) =
-    ap handle_at are.4.1 ∙ handle_at-handle metaindex rest are.0 are.1 in
-    let left : drop (length (handle_spelling metaindex)) between ≡ rest =
-    ap (drop (length (handle_spelling metaindex))) are.4.1 ∙ drop_at (handle_spelling metaindex) rest (length (handle_spelling metaindex)) refl in
-    let second : handle_at (drop (length (handle_spelling metaindex)) between) ≡ Some (index, length (handle_spelling index)) =
-    ap handle_at left ∙ handle_at-handle index are.4.0 are.2 are.3 in
-    ap (handles_after between) first ∙ ap (second_handle metaindex) second
+-- the footer of a block-based file with any checksum type
+abbrev pub footer_by : ℕ → ℕ → Handle → Handle → Footer
+footer_by version kind metaindex index =
+    record { format = Format.Block; legacy = false; version = version; checksum = kind; meta = metaindex; index = index }
 
--- what was read stands there
-handles-joined : (a b : Handle × ℕ) (between : List ℕ) → handle_at between ≡ Some a → handle_at (drop a.1 between) ≡ Some b → AreHandles a.0 b.0 between
-handles-joined a b between first second =
-    let x = handle_at-found a.0 a.1 between first in
-    let y = handle_at-found b.0 b.1 (drop a.1 between) second in
-    let left : drop a.1 between ≡ x.0.0 =
-    ap (λ (k : ℕ). drop k between) x.0.2 ∙ ap (drop (length (handle_spelling a.0))) x.0.1 ∙ drop_at (handle_spelling a.0) x.0.0 (length (handle_spelling a.0)) refl in
-    (x.1, x.2, y.1, y.2, (y.0.0, x.0.1 ∙ ap (λ (l : List ℕ). handle_spelling a.0 ++ l) (sym left ∙ y.0.1)))
+-- the handles of fields that are good
+with-handles : (version kind : ℕ) (between : List ℕ) (handles : Option (Handle × Handle)) (footer : Footer) → handles_read between ≡ handles
+    → as_footer Format.Block false version kind handles ≡ Ok footer → AreHandles footer.meta footer.index between × (footer ≡ footer_by version kind footer.meta footer.index)
+with-handles version kind between None footer read e = cc
+with-handles version kind between (Some handles) footer read e =
+    let same : ◌≡◌ {A = Footer} (footer_by version kind handles.0 handles.1) footer = cc in
+    subst (λ (f : Footer). AreHandles f.meta f.index between × (f ≡ footer_by version kind f.meta f.index)) same (handles_read-found handles between read, refl)
 
-pub handles_read-found : (footer : Footer) (between : List ℕ) → handles_read between ≡ Ok footer → AreHandles footer.metaindex footer.index between
-unfolding handles_read
-handles_read-found footer between e =
-    elim (handle_at between) as (λ (o : Option (Handle × ℕ)). handle_at between ≡ o → handles_after between o ≡ Ok footer → AreHandles footer.metaindex footer.index between) [
-      | None ↦ λ _ e. cc
-      | Some a ↦ λ first e.
-          elim (handle_at (drop a.1 between)) as (λ (o : Option (Handle × ℕ)). handle_at (drop a.1 between) ≡ o → second_handle a.0 o ≡ Ok footer → AreHandles footer.metaindex footer.index between) [
-            | None ↦ λ _ e. cc
-            | Some b ↦ λ second e.
-                let same : ◌≡◌ {A = Footer} (record { metaindex = a.0; index = b.0 }) footer = cc in
-                subst (λ (f : Footer). AreHandles f.metaindex f.index between) same (handles-joined a b between first second)
-          ] refl e
-    ] refl e
+pub fields-handles : (version kind : ℕ) (between : List ℕ) (footer : Footer) → as_footer Format.Block false version kind (handles_read between) ≡ Ok footer
+    → AreHandles footer.meta footer.index between
+fields-handles version kind between footer e = (with-handles version kind between (handles_read between) footer refl e).0
 
 -- nothing else is wrong with them
-handles_read-fault : (fault : MetaFault) (between : List ℕ) → handles_read between ≡ Err fault → BadFooter ≡ fault
-unfolding handles_read
-handles_read-fault fault between e =
-    elim (handle_at between) as (λ (o : Option (Handle × ℕ)). handles_after between o ≡ Err fault → BadFooter ≡ fault) [
-      | None ↦ λ e. cc
-      | Some a ↦ λ e. elim (handle_at (drop a.1 between)) as (λ (o : Option (Handle × ℕ)). second_handle a.0 o ≡ Err fault → BadFooter ≡ fault) [ None ↦ λ e. cc | Some b ↦ λ e. cc ] e
-    ] e
-
-no-handles : (fault : MetaFault) (between : List ℕ) → handles_read between ≡ Err fault → (metaindex index : Handle) → AreHandles metaindex index between → ⊥
-no-handles fault between e metaindex index are = cc (handles_read-spelled metaindex index between are)
+no-handles : (version kind : ℕ) (between : List ℕ) (handles : Option (Handle × Handle)) (fault : MetaFault) → handles_read between ≡ handles
+    → as_footer Format.Block false version kind handles ≡ Err fault → (BadFooter ≡ fault) × ((metaindex index : Handle) → AreHandles metaindex index between → ⊥)
+no-handles version kind between None fault read e = (cc, λ metaindex index are. cc (read, handles_read-spelled metaindex index between are))
+no-handles version kind between (Some handles) fault read e = cc
 
 -- the version first, then the checksum type, then the handles
-pub by_version-cases : {P : Type 0} (kind version : ℕ) (between : List ℕ) (read : Result Footer MetaFault) → by_version kind between (Some version) ≡ read
+pub by_version-cases : {P : Type 0} (kind version : ℕ) (between : List ℕ) (read : Result Footer MetaFault) → fields_read Format.Block false version kind between ≡ read
     → ((IsBuilt version → ⊥) → Err (Version version) ≡ read → P)
     → (IsBuilt version → kind ≢ 1 → Err (ChecksumType kind) ≡ read → P)
-    → (IsBuilt version → kind ≡ 1 → handles_read between ≡ read → P) → P
+    → (IsBuilt version → kind ≡ 1 → as_footer Format.Block false version kind (handles_read between) ≡ read → P) → P
 by_version-cases kind version between read e old sum good =
-    by_test (nat_lt version 2 || nat_lt 4 version) (Err (Version version)) _ read e
-    (λ out e. old (λ built. elim (or_cases (nat_lt version 2) (nat_lt 4 version) out) [
-      | inl low ↦ both_ways _ (le-ltb version 2 built.0) low
-      | inr high ↦ both_ways _ (le-ltb 4 version built.1) high
-    ]) e)
+    by_test (nat_le 2 version && nat_le version 4) _ (Err (Version version)) read e
     (λ inside e.
-    let built : IsBuilt version = (
-      elim (cases_lt version 2) [ inl low ↦ absurd (both_ways _ inside (or_left (nat_lt version 2) (nat_lt 4 version) (lt-ltb version 2 low))) | inr least ↦ least ],
-      elim (cases_lt 4 version) [ inl high ↦ absurd (both_ways _ inside (or_right (nat_lt version 2) (nat_lt 4 version) (lt-ltb 4 version high))) | inr most ↦ most ],
-    ) in
-    by_test (kind == 1) (handles_read between) (Err (ChecksumType kind)) read e
+    let parts = and_parts (nat_le 2 version) (nat_le version 4) inside in
+    let built : IsBuilt version = (leb-true 2 version parts.0, leb-true version 4 parts.1) in
+    by_test (kind == 1) _ (Err (ChecksumType kind)) read e
     (λ is e. good built (eqb-true kind 1 is) e)
     (λ is e. sum built (λ one. absurd (eqb-false kind 1 is one)) e))
+    (λ out e. old (λ built. both_ways _ out (and_from (nat_le 2 version) (nat_le version 4) (le-leb 2 version built.0) (le-leb version 4 built.1))) e)
 
 -- a footer that leads to two handles is read
-pub footer_read-leads : (file : List ℕ) (end : ℕ) (metaindex index : Handle) → FooterLeads file end metaindex index
-    → (end ≡ length file - 53) × (footer_read (last_bytes 53 file) ≡ Ok (record { metaindex = metaindex; index = index }))
+pub footer_read-leads : (file : List ℕ) (end : ℕ) (metaindex index : Handle) (leads : FooterLeads file end metaindex index)
+    → (end ≡ length file - 53) × (end_read (last_bytes 53 file) ≡ Ok (block_footer leads.version metaindex index))
 footer_read-leads file end metaindex index leads =
-    let read = footer_read-ends file end 1 leads.version leads.between leads.ends in
-    let version : by_version 1 leads.between (Some leads.version) ≡ handles_read leads.between =
-    rw (le-ltb leads.version 2 leads.built.0, le-ltb 4 leads.version leads.built.1) refl in
-    (read.0, read.1 ∙ version ∙ handles_read-spelled metaindex index leads.between leads.handles)
+    let read = end_read-ends file end 1 leads.version leads.between leads.ends in
+    let version : takes_version Format.Block leads.version ≡ true =
+    and_from (nat_le 2 leads.version) (nat_le leads.version 4) (le-leb 2 leads.version leads.built.0) (le-leb leads.version 4 leads.built.1) in
+    (read.0, read.1 ∙ fields-taken Format.Block false leads.version 1 leads.between (metaindex, index) version refl (handles_read-spelled metaindex index leads.between leads.handles))
 
 -- a footer that is read leads to its handles
-pub leads-read : (file : List ℕ) (footer : Footer) → footer_read (last_bytes 53 file) ≡ Ok footer → FooterLeads file (length file - 53) footer.metaindex footer.index
+pub leads-read : (file : List ℕ) (footer : Footer) → end_read (last_bytes 53 file) ≡ Ok footer
+    → (leads : FooterLeads file (length file - 53) footer.meta footer.index) × (footer ≡ block_footer leads.version footer.meta footer.index)
 leads-read file footer e =
     elim (end_reads file (Ok footer) e) [
       | fields kind version between ends e ↦
           by_version-cases kind version between (Ok footer) e (λ _ e. cc) (λ _ _ e. cc)
-          (λ built is e. record {
-            version = version;
-            between = between;
-            ends = subst (λ k. EndsIn file (length file - 53) k version between) is ends;
-            built = built;
-            handles = handles_read-found footer between e;
-          })
+          (λ built is e.
+          let found = with-handles version kind between (handles_read between) footer refl e in (
+            record {
+              version = version;
+              between = between;
+              ends = subst (λ k. EndsIn file (length file - 53) k version between) is ends;
+              built = built;
+              handles = found.0;
+            },
+            found.1 ∙ ap (λ (k : ℕ). footer_by version k footer.meta footer.index) is,
+          ))
       | legacy ends e ↦ cc
       | other ends e ↦ cc
       | none not e ↦ cc
     ]
 
 -- a fault of the end of a file, whose last bytes are bytes, is one that the file shows
-pub footer_read-fault : (file : List ℕ) (fault : MetaFault) → IsBytes (last_bytes 53 file) → footer_read (last_bytes 53 file) ≡ Err fault → ShowsMeta file fault
+pub footer_read-fault : (file : List ℕ) (fault : MetaFault) → IsBytes (last_bytes 53 file) → end_read (last_bytes 53 file) ≡ Err fault → ShowsMeta file fault
 footer_read-fault file fault bytes e =
     elim (end_reads file (Err fault) e) [
       | fields kind version between ends e ↦
@@ -120,8 +96,9 @@ footer_read-fault file fault bytes e =
           (λ old e. let same : Version version ≡ fault = cc in subst (λ f. ShowsMeta file f) same (inr (length file - 53, kind, between, ends, old)))
           (λ built is e. let same : ChecksumType kind ≡ fault = cc in subst (λ f. ShowsMeta file f) same (length file - 53, version, between, ends, built, is))
           (λ built is e.
-          subst (λ f. ShowsMeta file f) (handles_read-fault fault between e)
-          (length file - 53, version, between, subst (λ k. EndsIn file (length file - 53) k version between) is ends, built, no-handles fault between e))
+          let found = no-handles version kind between (handles_read between) fault refl e in
+          subst (λ f. ShowsMeta file f) found.0
+          (length file - 53, version, between, subst (λ k. EndsIn file (length file - 53) k version between) is ends, built, found.1))
       | legacy ends e ↦ let same : Version 0 ≡ fault = cc in subst (λ f. ShowsMeta file f) same (inl (ends, refl))
       | other ends e ↦ let same : NotYet ≡ fault = cc in subst (λ f. ShowsMeta file f) same (inl ends)
       | none not e ↦ let same : NotTable ≡ fault = cc in subst (λ f. ShowsMeta file f) same (not bytes)

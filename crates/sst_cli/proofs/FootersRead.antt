@@ -1,20 +1,27 @@
 -- What the end of a file is read as: the fields of a footer, another kind of table, or none.
-use Rattle.std.proofs.Common.{◌≡◌, ℕ, ◌-◌, ◌^◌, ◌<◌, ◌≤◌, ◌==◌, ◌&&◌, ◌||◌, nat_le, get_or, true, false, List, [], ◌∷◌, ◌++◌, length, take, drop, Option, None, Some, Result, Err, refl, sym, ap, subst, ◌∙◌, inl, inr, length-append, length-drop, append_assoc, arith}
-use Rattle.std.proofs.lemmas.Bool.{le-leb, leb-true, eqb-true, eq-eqb, and_parts, or_cases, both_ways, and_from, or_left, or_right}
-use Rattle.std.proofs.lemmas.List.{take_at, drop_at, drop-drop, length-take-le}
+use Rattle.std.proofs.Common.{◌≡◌, ℕ, ◌+◌, ◌-◌, ◌^◌, ◌<◌, ◌≤◌, ◌==◌, ◌&&◌, nat_le, get_or, Bool, true, false, List, [], ◌∷◌, ◌++◌, length, take, drop, Option, None, Some, Result, Err, refl, sym, ap, subst, ◌∙◌, inl, inr, length-append, length-drop, arith}
+use Rattle.std.specs.Option.{option_map}
+use Rattle.std.proofs.lemmas.Bool.{le-leb, eq-eqb, both_ways, and_from}
+use Rattle.std.proofs.lemmas.List.{drop-drop, length-take-le, get_or-drop}
 use Rattle.hex.specs.Hex.{IsBytes}
 use Rattle.sst_num.specs.Spelling.{fixed}
 use Rattle.sst_num.specs.Reading.{fixed_at}
 use Rattle.sst_num.proofs.Fixed.{length-fixed}
-use Rattle.sst_num.proofs.FixedAt.{fixed_at-fixed, fixed_at-found, fixed_at-joined}
-use Rattle.sst_cli.specs.Meta.{block_based_magic}
-use Rattle.sst_cli.specs.FooterReading.{legacy_block_based_magic, plain_magic, legacy_plain_magic, cuckoo_magic, last_bytes, by_version, fields_read, by_magic, footer_read}
+use Rattle.sst_num.proofs.FixedAt.{fixed_at-found, fixed_at-joined}
+use Rattle.sst_key.specs.declared.calls.Format.{Format}
+use Rattle.sst_meta.specs.Footer.{block_based_magic, legacy_block_based_magic, plain_magic, legacy_plain_magic, cuckoo_magic, magic_of, footer_length}
+use Rattle.sst_meta.specs.FooterReading.{last_bytes, number_at_end, kind_by, kind_at, fields_read, by_version, later_read, by_kind, footer_read}
+use Rattle.sst_meta.specs.declared.footer.Footer.{Footer}
+use Rattle.sst_meta.specs.declared.meta_fault.MetaFault.{MetaFault}
+use Rattle.sst_meta.specs.declared.meta_fault.MetaFault.TheVariants.{NotTable, Version, NotYet}
+use Rattle.sst_meta.proofs.FileEnds.{last_bytes-joined, last_bytes-twice, last_bytes-split, number_at_end-fixed, number_at_end-found, fixed_at-bytes, cut_three}
+use Rattle.sst_meta.proofs.FooterKinds.{kind_test, IsKind, known, unknown, kind-is}
+use Rattle.sst_meta.proofs.FooterReads.{later-reads}
+use Rattle.sst_cli.specs.Opening.{by_format, end_read}
 use Rattle.sst_cli.specs.Shows.{EndsWith, IsTable, IsOtherTable, EndsIn}
-use Rattle.sst_cli.specs.declared.footer.Footer.{Footer}
-use Rattle.sst_cli.specs.declared.meta_fault.MetaFault.{MetaFault}
-use Rattle.sst_cli.specs.declared.meta_fault.MetaFault.TheVariants.{NotTable, Version, NotYet}
-use Rattle.sst_cli.proofs.FileEnds.{last_bytes-joined, last_bytes-twice, last_bytes-split, number_at_end, number_at_end-is, number_at_end-fixed, number_at_end-found, fixed_at-bytes, IsBytes-drop, cut_three}
-use Rattle.sst_device.proofs.Choices.{by_test}
+
+pub IsBytes-drop : (n : ℕ) (bytes : List ℕ) → IsBytes bytes → (i : ℕ) → get_or (drop n bytes) i 0 < 256
+IsBytes-drop n bytes are i = rw (get_or-drop n bytes i 0) (are (n + i))
 
 -- what a file that ends with a magic number is read by
 pub number-of_end : (file : List ℕ) (m n : ℕ) → m < 256 ^ 8 → 8 ≤ n → EndsWith m n file → number_at_end (last_bytes 53 file) ≡ Some m
@@ -35,7 +42,7 @@ end-of_number file m n read long =
 
 -- what reading the end of a file gives
 pub data EndReads (file : List ℕ) (read : Result Footer MetaFault) : Type 0 where
-  fields : (kind version : ℕ) (between : List ℕ) → EndsIn file (length file - 53) kind version between → by_version kind between (Some version) ≡ read → EndReads file read
+  fields : (kind version : ℕ) (between : List ℕ) → EndsIn file (length file - 53) kind version between → fields_read Format.Block false version kind between ≡ read → EndReads file read
   legacy : EndsWith legacy_block_based_magic 48 file → Err (Version 0) ≡ read → EndReads file read
   other : IsOtherTable file → Err NotYet ≡ read → EndReads file read
   none : (IsBytes (last_bytes 53 file) → IsTable file → ⊥) → Err NotTable ≡ read → EndReads file read
@@ -43,11 +50,11 @@ pub data EndReads (file : List ℕ) (read : Result Footer MetaFault) : Type 0 wh
 -- the fields of the last 53 bytes
 fields-found : (file front tail : List ℕ) (magic : ℕ) (read : Result Footer MetaFault) → file ≡ front ++ tail → length file - 53 ≡ length front → length tail ≡ 53
     → last_bytes 8 tail ≡ fixed 8 magic → block_based_magic ≡ magic → (IsBytes (last_bytes 53 file) → (i : ℕ) → get_or (drop 41 tail) i 0 < 256)
-    → fields_read tail ≡ read → EndReads file read
+    → later_read Format.Block tail ≡ read → EndReads file read
 fields-found file front [] magic read joined at size last is are e = absurd (omega arith)
 fields-found file front (kind ∷ rest) magic read joined at size last is are e =
     let part = length-drop 40 rest in
-    elim (fixed_at 4 (drop 40 rest)) as (λ (o : Option ℕ). fixed_at 4 (drop 40 rest) ≡ o → by_version kind (take 40 rest) o ≡ read → EndReads file read) [
+    elim (fixed_at 4 (drop 40 rest)) as (λ (o : Option ℕ). fixed_at 4 (drop 40 rest) ≡ o → by_version Format.Block kind (take 40 rest) o ≡ read → EndReads file read) [
       | None ↦ λ nothing e. none (λ bytes table. fixed_at-bytes 4 (drop 40 rest) (omega arith) (are bytes) nothing) e
       | Some version ↦ λ found e.
           let at_end : length (kind ∷ rest) - 8 ≡ 45 = omega arith in
@@ -81,23 +88,22 @@ table-test file m k n read fits least most ends =
 
 -- a file whose magic number is none of them is no table
 no-table : (file : List ℕ) (m : ℕ) → number_at_end (last_bytes 53 file) ≡ Some m
-    → (m == block_based_magic && nat_le 53 (length (last_bytes 53 file))) ≡ false
-    → (m == legacy_block_based_magic && nat_le 48 (length (last_bytes 53 file))) ≡ false
-    → ((m == plain_magic || m == cuckoo_magic) && nat_le 53 (length (last_bytes 53 file))) ≡ false
-    → (m == legacy_plain_magic && nat_le 48 (length (last_bytes 53 file))) ≡ false
+    → kind_test m (length (last_bytes 53 file)) block_based_magic 53 ≡ false
+    → kind_test m (length (last_bytes 53 file)) legacy_block_based_magic 48 ≡ false
+    → kind_test m (length (last_bytes 53 file)) plain_magic 53 ≡ false
+    → kind_test m (length (last_bytes 53 file)) legacy_plain_magic 48 ≡ false
+    → kind_test m (length (last_bytes 53 file)) cuckoo_magic 53 ≡ false
     → IsTable file → ⊥
-no-table file m read a b c d (inl ends) =
+no-table file m read a b c d f (inl ends) =
     both_ways _ a (table-test file m block_based_magic 53 read (omega arith) (omega arith) (omega arith) ends)
-no-table file m read a b c d (inr (inl ends)) =
+no-table file m read a b c d f (inr (inl ends)) =
     both_ways _ b (table-test file m legacy_block_based_magic 48 read (omega arith) (omega arith) (omega arith) ends)
-no-table file m read a b c d (inr (inr (inl ends))) =
-    let tests = table-tests file m plain_magic 53 read (omega arith) (omega arith) (omega arith) ends in
-    both_ways _ c (and_from (m == plain_magic || m == cuckoo_magic) _ (or_left (m == plain_magic) (m == cuckoo_magic) tests.0) tests.1)
-no-table file m read a b c d (inr (inr (inr (inl ends)))) =
+no-table file m read a b c d f (inr (inr (inl ends))) =
+    both_ways _ c (table-test file m plain_magic 53 read (omega arith) (omega arith) (omega arith) ends)
+no-table file m read a b c d f (inr (inr (inr (inl ends)))) =
     both_ways _ d (table-test file m legacy_plain_magic 48 read (omega arith) (omega arith) (omega arith) ends)
-no-table file m read a b c d (inr (inr (inr (inr ends)))) =
-    let tests = table-tests file m cuckoo_magic 53 read (omega arith) (omega arith) (omega arith) ends in
-    both_ways _ c (and_from (m == plain_magic || m == cuckoo_magic) _ (or_right (m == plain_magic) (m == cuckoo_magic) tests.0) tests.1)
+no-table file m read a b c d f (inr (inr (inr (inr ends)))) =
+    both_ways _ f (table-test file m cuckoo_magic 53 read (omega arith) (omega arith) (omega arith) ends)
 
 -- nor is a file with no magic number
 no-number : (file : List ℕ) → number_at_end (last_bytes 53 file) ≡ None → IsTable file → ⊥
@@ -107,70 +113,74 @@ no-number file read (inr (inr (inl ends))) = cc (number-of_end file plain_magic 
 no-number file read (inr (inr (inr (inl ends)))) = cc (number-of_end file legacy_plain_magic 48 (omega arith) (omega arith) ends)
 no-number file read (inr (inr (inr (inr ends)))) = cc (number-of_end file cuckoo_magic 53 (omega arith) (omega arith) ends)
 
--- the end of a file by its magic number
-by_number : (file : List ℕ) (m : ℕ) (read : Result Footer MetaFault) → number_at_end (last_bytes 53 file) ≡ Some m
-    → by_magic (last_bytes 53 file) (Some m) ≡ read → EndReads file read
-by_number file m read is e =
+-- what is read of a kind of file
+abbrev pub end_by : List ℕ → Option (Format × Bool) → Result Footer MetaFault
+end_by tail kind = by_format tail (option_map (λ (k : Format × Bool). k.0) kind)
+
+end_read-none : (tail : List ℕ) → kind_at tail ≡ None → end_read tail ≡ Err NotTable
+unfolding end_read footer_read
+end_read-none tail is = ap (end_by tail) is ∙ ap (by_kind tail) is
+
+end_read-other : (tail : List ℕ) (kind : Format × Bool) (rest : Result Footer MetaFault) → kind_at tail ≡ Some kind → by_format tail (Some kind.0) ≡ rest → end_read tail ≡ rest
+unfolding end_read
+end_read-other tail kind rest is e = ap (end_by tail) is ∙ e
+
+end_read-block : (tail : List ℕ) (is_legacy : Bool) → kind_at tail ≡ Some (Format.Block, is_legacy) → end_read tail ≡ by_kind tail (Some (Format.Block, is_legacy))
+unfolding end_read footer_read
+end_read-block tail is_legacy is = ap (end_by tail) is ∙ ap (by_kind tail) is
+
+-- the end of a file of a kind
+by_known : (file : List ℕ) (m : ℕ) (format : Format) (legacy : Bool) (read : Result Footer MetaFault) → number_at_end (last_bytes 53 file) ≡ Some m → IsKind format legacy
+    → m ≡ magic_of format legacy → footer_length legacy ≤ length (last_bytes 53 file) → kind_at (last_bytes 53 file) ≡ Some (format, legacy)
+    → end_read (last_bytes 53 file) ≡ read → EndReads file read
+by_known file m Format.Block false read is there number long kind e =
     let tail = last_bytes 53 file in
     let size = length-drop (length file - 53) file in
-    by_test (m == block_based_magic && nat_le 53 (length tail)) (fields_read tail) _ read e
-    (λ test e.
-    let parts = and_parts (m == block_based_magic) (nat_le 53 (length tail)) test in
-    let long : 53 ≤ length tail = leb-true 53 (length tail) parts.1 in
-    let number : m ≡ block_based_magic = eqb-true m block_based_magic parts.0 in
     let front = length-take-le (length file - 53) file (omega arith) in
+    let whole : last_bytes 53 tail ≡ tail = last_bytes-twice 53 53 file (omega arith) (omega arith) in
     fields-found file (take (length file - 53) file) tail m read (last_bytes-split 53 file) (sym front) (omega arith)
     (number_at_end-found tail m is).1 (sym number)
-    (IsBytes-drop 41 tail) e)
-    (λ a e. by_test (m == legacy_block_based_magic && nat_le 48 (length tail)) (Err (Version 0)) _ read e
-    (λ test e.
-    let parts = and_parts (m == legacy_block_based_magic) (nat_le 48 (length tail)) test in
-    let long : 48 ≤ length tail = leb-true 48 (length tail) parts.1 in
-    let number : m ≡ legacy_block_based_magic = eqb-true m legacy_block_based_magic parts.0 in
-    legacy (subst (λ k. EndsWith k 48 file) number (end-of_number file m 48 is (omega arith))) e)
-    (λ b e. by_test ((m == plain_magic || m == cuckoo_magic) && nat_le 53 (length tail)) (Err NotYet) _ read e
-    (λ test e.
-    let parts = and_parts (m == plain_magic || m == cuckoo_magic) (nat_le 53 (length tail)) test in
-    let long : 53 ≤ length tail = leb-true 53 (length tail) parts.1 in
-    let ends = end-of_number file m 53 is (omega arith) in
-    elim (or_cases (m == plain_magic) (m == cuckoo_magic) parts.0) [
-      | inl plain ↦ other (inl (subst (λ k. EndsWith k 53 file) (eqb-true m plain_magic plain) ends)) e
-      | inr cuckoo ↦ other (inr (inr (subst (λ k. EndsWith k 53 file) (eqb-true m cuckoo_magic cuckoo) ends))) e
-    ])
-    (λ c e. by_test (m == legacy_plain_magic && nat_le 48 (length tail)) (Err NotYet) (Err NotTable) read e
-    (λ test e.
-    let parts = and_parts (m == legacy_plain_magic) (nat_le 48 (length tail)) test in
-    let long : 48 ≤ length tail = leb-true 48 (length tail) parts.1 in
-    let number : m ≡ legacy_plain_magic = eqb-true m legacy_plain_magic parts.0 in
-    other (inr (inl (subst (λ k. EndsWith k 48 file) number (end-of_number file m 48 is (omega arith))))) e)
-    (λ d e. none (λ bytes table. no-table file m is a b c d table) e))))
+    (IsBytes-drop 41 tail) (ap (later_read Format.Block) (sym whole) ∙ sym (end_read-block tail false kind) ∙ e)
+by_known file m Format.Block true read is there number long kind e =
+    let size = length-drop (length file - 53) file in
+    legacy (subst (λ k. EndsWith k 48 file) number (end-of_number file m 48 is (omega arith))) (sym (end_read-block (last_bytes 53 file) true kind) ∙ e)
+by_known file m Format.Plain false read is there number long kind e =
+    let size = length-drop (length file - 53) file in
+    other (inl (subst (λ k. EndsWith k 53 file) number (end-of_number file m 53 is (omega arith)))) (sym (end_read-other (last_bytes 53 file) (Format.Plain, false) (Err NotYet) kind refl) ∙ e)
+by_known file m Format.Plain true read is there number long kind e =
+    let size = length-drop (length file - 53) file in
+    other (inr (inl (subst (λ k. EndsWith k 48 file) number (end-of_number file m 48 is (omega arith))))) (sym (end_read-other (last_bytes 53 file) (Format.Plain, true) (Err NotYet) kind refl) ∙ e)
+by_known file m Format.Cuckoo false read is there number long kind e =
+    let size = length-drop (length file - 53) file in
+    other (inr (inr (subst (λ k. EndsWith k 53 file) number (end-of_number file m 53 is (omega arith))))) (sym (end_read-other (last_bytes 53 file) (Format.Cuckoo, false) (Err NotYet) kind refl) ∙ e)
+by_known file m Format.Cuckoo true read is there number long kind e = absurd there
 
-pub end_reads : (file : List ℕ) (read : Result Footer MetaFault) → footer_read (last_bytes 53 file) ≡ read → EndReads file read
-unfolding footer_read
+-- the kind of a file by its magic number
+kind-number : (tail : List ℕ) (number : Option ℕ) → number_at_end tail ≡ number → kind_at tail ≡ kind_by (length tail) number
+unfolding kind_at
+kind-number tail number is = ap (kind_by (length tail)) is
+
+pub end_reads : (file : List ℕ) (read : Result Footer MetaFault) → end_read (last_bytes 53 file) ≡ read → EndReads file read
 end_reads file read e =
     let tail = last_bytes 53 file in
-    let by : by_magic tail (number_at_end tail) ≡ read = ap (by_magic tail) (sym (number_at_end-is tail)) ∙ e in
-    elim (number_at_end tail) as (λ (o : Option ℕ). number_at_end tail ≡ o → by_magic tail o ≡ read → EndReads file read) [
-      | None ↦ λ is e. none (λ bytes table. no-number file is table) e
-      | Some m ↦ λ is e. by_number file m read is e
-    ] refl by
+    elim (number_at_end tail) as (λ (o : Option ℕ). number_at_end tail ≡ o → EndReads file read) [
+      | None ↦ λ is. none (λ bytes table. no-number file is table) (sym (end_read-none tail (kind-number tail None is)) ∙ e)
+      | Some m ↦ λ is.
+          let kind = kind-number tail (Some m) is in
+          elim (kind-is m (length tail) (kind_at tail) (sym kind)) [
+            | known format is_legacy there number long same ↦ by_known file m format is_legacy read is there number long (sym same) e
+            | unknown a b c d f same ↦ none (λ bytes table. no-table file m is a b c d f table) (sym (end_read-none tail (sym same)) ∙ e)
+          ]
+    ] refl
 
 -- the fields of a footer are read
-pub footer_read-ends : (file : List ℕ) (end kind version : ℕ) (between : List ℕ) → EndsIn file end kind version between
-    → (end ≡ length file - 53) × (footer_read (last_bytes 53 file) ≡ by_version kind between (Some version))
-unfolding footer_read number_at_end
-footer_read-ends file end kind version between ends =
-    let magic = fixed 8 block_based_magic in
-    let back : List ℕ = fixed 4 version ++ magic in
-    let tail : List ℕ = kind ∷ (between ++ back) in
-    let back_size : length back ≡ 12 = omega (arith, length-append (fixed 4 version) magic, length-fixed 4 version, length-fixed 8 block_based_magic) in
-    let size : length tail ≡ 53 = omega (arith, length-append between back, ends.long) in
+pub end_read-ends : (file : List ℕ) (end kind version : ℕ) (between : List ℕ) → EndsIn file end kind version between
+    → (end ≡ length file - 53) × (end_read (last_bytes 53 file) ≡ fields_read Format.Block false version kind between)
+unfolding footer_read
+end_read-ends file end kind version between ends =
+    let tail : List ℕ = kind ∷ (between ++ (fixed 4 version ++ fixed 8 block_based_magic)) in
+    let reads = later-reads Format.Block kind version between ends.long ends.small in
     let whole = ap length ends.ends ∙ length-append ends.front tail in
-    let last : last_bytes 53 file ≡ tail = ap (last_bytes 53) ends.ends ∙ last_bytes-joined 53 ends.front tail size in
-    let joined : tail ≡ (kind ∷ (between ++ fixed 4 version)) ++ magic = ap (λ (l : List ℕ). kind ∷ l) (sym (append_assoc between (fixed 4 version) magic)) in
-    let eight : last_bytes 8 tail ≡ magic = ap (last_bytes 8) joined ∙ last_bytes-joined 8 (kind ∷ (between ++ fixed 4 version)) magic (length-fixed 8 block_based_magic) in
-    let number : number_at_end tail ≡ Some block_based_magic = number_at_end-fixed tail block_based_magic (omega arith) (omega arith) eight in
-    let read : fields_read tail ≡ by_version kind between (Some version) =
-    rw (take_at between back 40 ends.long, drop_at between back 40 ends.long, fixed_at-fixed 4 version magic (omega (arith, ends.small))) refl in
-    let at : end ≡ length file - 53 = omega (arith, ends.end_is) in
-    (at, ap footer_read last ∙ ap (by_magic tail) number ∙ rw (le-leb 53 (length tail) (omega arith)) read)
+    let last : last_bytes 53 file ≡ tail = ap (last_bytes 53) ends.ends ∙ last_bytes-joined 53 ends.front tail reads.size in
+    let at : end ≡ length file - 53 = omega (arith, ends.end_is, reads.size) in
+    (at, ap end_read last ∙ end_read-block tail false reads.kind ∙ sym (ap (by_kind tail) reads.kind) ∙ reads.read)

@@ -5,9 +5,9 @@ use Rattle.sst_num.specs.declared.block_handle.Handle.{Handle}
 use Rattle.sst_block.specs.declared.row_form.RowForm.TheVariants.{Names}
 use Rattle.sst_cli.specs.BlockBased.{Opens}
 use Rattle.sst_device.specs.Framed.{Framed}
-use Rattle.sst_cli.specs.FooterReading.{last_bytes, footer_read}
-use Rattle.sst_cli.specs.Meta.{footer_front, footer_back, Meta}
-use Rattle.sst_cli.specs.Opening.{footer_start}
+use Rattle.sst_meta.specs.FooterReading.{last_bytes}
+use Rattle.sst_cli.specs.Meta.{block_footer, footer_front, footer_back, Meta}
+use Rattle.sst_cli.specs.Opening.{footer_start, end_read}
 use Rattle.sst_cli.specs.Shows.{FooterLeads}
 use Rattle.sst_key.specs.declared.entries.Entry.{Entry}
 use Rattle.sst_cli.proofs.BlocksRead.{RowsAt}
@@ -91,7 +91,8 @@ leads-meta file end metaindex index short leads at =
 -- what a file that opens leads to, from where its footer begins
 pub record Leads (file : List ℕ) (metaindex index : Handle) : Type 0 where
   pub leads : FooterLeads file (footer_start file) metaindex index
-  pub read : footer_read (last_bytes 53 file) ≡ Ok (record { metaindex = metaindex; index = index })
+  pub version : ℕ
+  pub read : end_read (last_bytes 53 file) ≡ Ok (block_footer version metaindex index)
   pub short : length file < 2 ^ 40
   pub names : RowsAt Names file (footer_start file) metaindex []
 
@@ -105,6 +106,7 @@ opens-leads file entries o =
     let read = footer_read-leads file o.end o.metaindex o.index leads in
     record {
       leads = subst (λ e. FooterLeads file e o.metaindex o.index) read.0 leads;
+      version = leads.version;
       read = read.1;
       short = o.meta.limited;
       names = record { bytes = o.meta.names_block; framed = subst (λ e. Framed file e o.metaindex o.meta.names_block) read.0 o.meta.framed; block = o.meta.names };

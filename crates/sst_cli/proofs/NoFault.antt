@@ -11,14 +11,15 @@ use Rattle.sst_block.specs.Builder.{HasNoFlags}
 use Rattle.sst_block.specs.Reading.{block_read}
 use Rattle.sst_block.proofs.OneReading.{no-rows}
 use Rattle.sst_cli.specs.BlockBased.{rows_of, Runs, Opens}
-use Rattle.sst_cli.specs.FooterReading.{legacy_block_based_magic, plain_magic, legacy_plain_magic, cuckoo_magic, last_bytes}
+use Rattle.sst_meta.specs.Footer.{legacy_block_based_magic, plain_magic, legacy_plain_magic, cuckoo_magic}
+use Rattle.sst_meta.specs.FooterReading.{last_bytes}
 use Rattle.sst_cli.specs.Opening.{open_read}
 use Rattle.sst_cli.specs.Shows.{FooterLeads, IsReached, ShowsFrame, ShowsBlock, IsOtherTable, IsNotYet, ShowsMeta, Shows}
 use Rattle.sst_device.specs.declared.frame.FrameFault.{FrameFault}
 use Rattle.sst_cli.specs.declared.bbt_fault.BbtFault.{BbtFault}
 use Rattle.sst_cli.specs.declared.bbt_fault.BbtFault.TheVariants as bbt
-use Rattle.sst_cli.specs.declared.meta_fault.MetaFault.{MetaFault}
-use Rattle.sst_cli.specs.declared.meta_fault.MetaFault.TheVariants as meta
+use Rattle.sst_meta.specs.declared.meta_fault.MetaFault.{MetaFault}
+use Rattle.sst_meta.specs.declared.meta_fault.MetaFault.TheVariants as meta
 use Rattle.sst_cli.proofs.BlocksRead.{RowsAt}
 use Rattle.sst_cli.proofs.FaultsShown.{open_read-fault}
 use Rattle.sst_device.proofs.FramesRead.{frame_read-framed}

@@ -12,8 +12,9 @@ use Rattle.sst_block.specs.Block.{Row}
 use Rattle.sst_cli.specs.BlockBased.{rows_of, LeadsTo}
 use Rattle.sst_cli.specs.Opening.{then_open, without_names, names_read, footer_start, meta_read, with_rows, led_to}
 use Rattle.sst_cli.specs.declared.bbt_fault.BbtFault.TheVariants as bbt
-use Rattle.sst_cli.specs.declared.footer.Footer.{Footer}
-use Rattle.sst_cli.specs.declared.meta_fault.MetaFault.TheVariants as meta
+use Rattle.sst_cli.specs.Meta.{block_footer}
+use Rattle.sst_meta.specs.declared.footer.Footer.{Footer}
+use Rattle.sst_meta.specs.declared.meta_fault.MetaFault.TheVariants as meta
 use Rattle.sst_cli.proofs.BlocksRead.{RowsAt, block_at-rows}
 use Rattle.sst_cli.proofs.Leads.{handle-fits, Leads}
 
@@ -39,7 +40,7 @@ led_to-entries file end row entries short leads =
 pub meta_read-leads : (file : List ℕ) (metaindex index : Handle) → Leads file metaindex index → meta_read file ≡ Ok index
 unfolding meta_read
 meta_read-leads file metaindex index l =
-    let footer : Footer = record { metaindex = metaindex; index = index } in
+    let footer : Footer = block_footer l.version metaindex index in
     let names = block_at-rows meta.Frame (meta.Block metaindex) Names file (footer_start file) metaindex [] tt l.names in
     rw (lt-ltb (length file) (2 ^ 40) l.short)
     (ap (λ r. then_open r (names_read file (footer_start file))) l.read ∙ ap (λ r. then_open r (without_names footer)) names)

@@ -9,11 +9,11 @@ use Rattle.sst_key.specs.declared.entries.Entry.{Entry}
 use Rattle.sst_block.specs.declared.row_form.RowForm.TheVariants.{Entries, Names, Index}
 use Rattle.sst_block.specs.Block.{Row, Block, IsHandle}
 use Rattle.sst_cli.specs.BlockBased.{row_of, rows_of, LeadsTo, Runs, Opens}
-use Rattle.sst_cli.specs.FooterReading.{last_bytes, footer_read}
-use Rattle.sst_cli.specs.Opening.{then_open, block_at, without_names, names_read, footer_start, meta_read, with_rows, data_read, led_to}
+use Rattle.sst_meta.specs.FooterReading.{last_bytes}
+use Rattle.sst_cli.specs.Opening.{then_open, end_read, block_at, without_names, names_read, footer_start, meta_read, with_rows, data_read, led_to}
 use Rattle.sst_cli.specs.declared.bbt_fault.BbtFault.TheVariants as bbt
-use Rattle.sst_cli.specs.declared.footer.Footer.{Footer}
-use Rattle.sst_cli.specs.declared.meta_fault.MetaFault.TheVariants as meta
+use Rattle.sst_meta.specs.declared.footer.Footer.{Footer}
+use Rattle.sst_meta.specs.declared.meta_fault.MetaFault.TheVariants as meta
 use Rattle.sst_cli.proofs.BlocksRead.{RowsAt, block_at-found}
 use Rattle.sst_cli.proofs.EntriesOfRows.{EntriesOf, entries-of_rows}
 use Rattle.sst_cli.proofs.FooterLaws.{leads-read}
@@ -31,18 +31,20 @@ without_names-ok footer (row ∷ rest) index e = cc
 pub meta_read-found : (file : List ℕ) (index : Handle) → meta_read file ≡ Ok index → (metaindex : Handle) × Leads file metaindex index
 unfolding meta_read
 meta_read-found file index e =
-    by_test (nat_lt (length file) (2 ^ 40)) (then_open (footer_read (last_bytes 53 file)) (names_read file (footer_start file))) _ (Ok index) e
-    (λ short e. then_open-ok (footer_read (last_bytes 53 file)) _ index e
-    (λ footer read e. then_open-ok (block_at meta.Frame (meta.Block footer.metaindex) Names file (footer_start file) footer.metaindex) _ index e
+    by_test (nat_lt (length file) (2 ^ 40)) (then_open (end_read (last_bytes 53 file)) (names_read file (footer_start file))) _ (Ok index) e
+    (λ short e. then_open-ok (end_read (last_bytes 53 file)) _ index e
+    (λ footer read e. then_open-ok (block_at meta.Frame (meta.Block footer.meta) Names file (footer_start file) footer.meta) _ index e
     (λ rows found last.
     let parts = without_names-ok footer rows index last in
-    let at = block_at-found meta.Frame (meta.Block footer.metaindex) Names file (footer_start file) footer.metaindex rows tt found in (
-      footer.metaindex,
-      subst (λ i. Leads file footer.metaindex i) parts.1 (record {
-        leads = leads-read file footer read;
-        read = read;
+    let leads = leads-read file footer read in
+    let at = block_at-found meta.Frame (meta.Block footer.meta) Names file (footer_start file) footer.meta rows tt found in (
+      footer.meta,
+      subst (λ i. Leads file footer.meta i) parts.1 (record {
+        leads = leads.0;
+        version = leads.0.version;
+        read = read ∙ ap Ok leads.1;
         short = ltb-true (length file) (2 ^ 40) short;
-        names = subst (λ (rs : List Row). RowsAt Names file (footer_start file) footer.metaindex rs) parts.0 at;
+        names = subst (λ (rs : List Row). RowsAt Names file (footer_start file) footer.meta rs) parts.0 at;
       }),
     ))))
     (λ long wrong. cc)

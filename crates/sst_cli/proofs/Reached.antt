@@ -11,13 +11,14 @@ use Rattle.sst_block.specs.Block.{Row, Block}
 use Rattle.sst_block.proofs.OneReading.{one-list}
 use Rattle.sst_cli.specs.BlockBased.{rows_of, Runs, Opens}
 use Rattle.sst_device.specs.Framed.{Framed}
-use Rattle.sst_cli.specs.Meta.{block_based_magic}
+use Rattle.sst_meta.specs.Footer.{block_based_magic, AreHandles}
 use Rattle.sst_cli.specs.Opening.{footer_start}
-use Rattle.sst_cli.specs.Shows.{EndsWith, EndsIn, AreHandles, IsBuilt, FooterLeads, HasIndex, IndexLeads}
-use Rattle.sst_cli.specs.declared.footer.Footer.{Footer}
+use Rattle.sst_cli.specs.Shows.{EndsWith, EndsIn, IsBuilt, FooterLeads, HasIndex, IndexLeads}
+use Rattle.sst_meta.specs.declared.footer.Footer.{Footer}
 use Rattle.sst_cli.proofs.BlocksRead.{RowsAt}
-use Rattle.sst_cli.proofs.FootersRead.{number-of_end, footer_read-ends}
-use Rattle.sst_cli.proofs.FooterLaws.{by_version-cases, handles_read-found, footer_read-leads}
+use Rattle.sst_cli.proofs.FootersRead.{number-of_end, end_read-ends}
+use Rattle.sst_cli.specs.Meta.{block_footer}
+use Rattle.sst_cli.proofs.FooterLaws.{by_version-cases, fields-handles, footer_read-leads}
 use Rattle.sst_device.proofs.FramesRead.{frame_read-framed}
 use Rattle.sst_cli.proofs.HandlesOnce.{handle-once}
 use Rattle.sst_cli.proofs.Leads.{Leads, opens-start, opens-leads}
@@ -27,17 +28,17 @@ leads-once : (file : List ℕ) (metaindex index : Handle) (end : ℕ) (m i : Han
     → (footer_start file ≡ end) × (metaindex ≡ m) × (index ≡ i)
 leads-once file metaindex index end m i l other =
     let read = footer_read-leads file end m i other in
-    let same : ◌≡◌ {A = Footer} (record { metaindex = metaindex; index = index }) (record { metaindex = m; index = i }) = cc (l.read, read.1) in
-    (sym read.0, ap (λ (f : Footer). f.metaindex) same, ap (λ (f : Footer). f.index) same)
+    let same : ◌≡◌ {A = Footer} (block_footer l.version metaindex index) (block_footer other.version m i) = cc (l.read, read.1) in
+    (sym read.0, ap (λ (f : Footer). f.meta) same, ap (λ (f : Footer). f.index) same)
 
 -- a footer that is read is good in each field
 pub ends-good : (file : List ℕ) (metaindex index : Handle) (end kind version : ℕ) (between : List ℕ) → Leads file metaindex index → EndsIn file end kind version between
     → IsBuilt version × (kind ≡ 1) × AreHandles metaindex index between
 ends-good file metaindex index end kind version between l ends =
-    let footer : Footer = record { metaindex = metaindex; index = index } in
-    let read = footer_read-ends file end kind version between ends in
+    let footer : Footer = block_footer l.version metaindex index in
+    let read = end_read-ends file end kind version between ends in
     by_version-cases kind version between (Ok footer) (sym read.1 ∙ l.read) (λ _ e. cc) (λ _ _ e. cc)
-    (λ built is e. (built, is, handles_read-found footer between e))
+    (λ built is e. (built, is, fields-handles version kind between footer e))
 
 -- a file with a footer is as long as one
 footer-long : (file : List ℕ) (end kind version : ℕ) (between : List ℕ) → EndsIn file end kind version between → 53 ≤ length file

@@ -19,7 +19,8 @@ use Rattle.sst_device.specs.Framed.{Framed, frame_of, trailer_of}
 use Rattle.sst_cli.specs.Meta.{Meta, footer_front, footer_back, footer_of}
 use Rattle.sst_cli.specs.BlockBased.{rows_of, HasSeq, Runs, AreSeparated, BlockBased}
 use Rattle.sst_cli.specs.Written.{Fits, IsInLimits, data_block, data_handle, data_part, index_rows, index_block, index_handle, metaindex_block, metaindex_handle, table_of, Written}
-use Rattle.sst_cli.proofs.Footers.{length-handle, length-footer_front}
+use Rattle.sst_meta.specs.Footer.{two_handles, footer_spelling}
+use Rattle.sst_meta.proofs.Footers.{length-handle, length-two_handles}
 use Rattle.sst_device.proofs.Frames.{frame-framed}
 use Rattle.sst_cli.proofs.Rows.{last_key-of_some, rows_of-forms, rows_of-ordered, rows_of-short}
 
@@ -46,6 +47,19 @@ unfolding before_footer
 length-before_footer blocks index names =
     omega (arith, length-append blocks (frame_of index ++ frame_of names), length-append (frame_of index) (frame_of names), length-frame index, length-frame names)
 
+-- the front of a footer ends before its padding must
+length-footer_front : (metaindex index : Handle) → length (footer_front metaindex index) ≤ 41
+length-footer_front metaindex index = omega (arith, length-two_handles metaindex index)
+
+-- a footer part by part
+footer-parts : (metaindex index : Handle)
+    → footer_of metaindex index ≡ footer_front metaindex index ++ (replicate (41 - length (footer_front metaindex index)) 0 ++ footer_back 2)
+unfolding footer_of footer_spelling
+footer-parts metaindex index =
+    let front : List ℕ = two_handles metaindex index in
+    let same : 40 - length front ≡ 41 - length (footer_front metaindex index) = omega arith in
+    ap (λ (n : ℕ). footer_front metaindex index ++ (replicate n 0 ++ footer_back 2)) same
+
 -- the padding fills up the front of the footer
 footer-padded : (metaindex index : Handle) → length (footer_front metaindex index) + length {A = ℕ} (replicate (41 - length (footer_front metaindex index)) 0) ≡ 41
 footer-padded metaindex index =
@@ -54,10 +68,11 @@ footer-padded metaindex index =
 footer-ends : (blocks index names : List ℕ) (metaindex_at index_at : Handle)
     → blocks ++ (frame_of index ++ (frame_of names ++ footer_of metaindex_at index_at))
     ≡ before_footer blocks index names ++ (footer_front metaindex_at index_at ++ (replicate (41 - length (footer_front metaindex_at index_at)) 0 ++ footer_back 2))
-unfolding before_footer footer_of
+unfolding before_footer
 footer-ends blocks index names metaindex_at index_at =
     let footer = footer_of metaindex_at index_at in
     ap (λ l. blocks ++ l) (sym (append_assoc (frame_of index) (frame_of names) footer)) ∙ sym (append_assoc blocks (frame_of index ++ frame_of names) footer)
+    ∙ ap (λ l. before_footer blocks index names ++ l) (footer-parts metaindex_at index_at)
 
 -- the blocks stand at their handles
 index-framed : (blocks index names footer : List ℕ) → length index ≤ 2 ^ 29
@@ -91,7 +106,6 @@ names-block = block_of_is_block Names 1 [] (omega arith) (All-nil (IsRow Names))
 -- the files of written lists are far shorter than a reader's limit
 file-short : (blocks index : List ℕ) (metaindex_at index_at : Handle) → length blocks + length index ≤ 2 ^ 31
     → length (blocks ++ (frame_of index ++ (frame_of metaindex_block ++ footer_of metaindex_at index_at))) < 2 ^ 40
-unfolding footer_of
 file-short blocks index metaindex_at index_at small =
     let front = footer_front metaindex_at index_at in
     let zeros : List ℕ = replicate (41 - length front) 0 in
@@ -107,6 +121,7 @@ file-short blocks index metaindex_at index_at small =
       length-append front (zeros ++ footer_back 2),
       length-append zeros (footer_back 2),
       footer-padded metaindex_at index_at,
+      ap length (footer-parts metaindex_at index_at),
     )
 
 meta-stands : (blocks index : List ℕ) (index_at : Handle) → length blocks + length index ≤ 2 ^ 31

@@ -17,7 +17,7 @@ use Rattle.sst_device.specs.Framed.{frame_of}
 use Rattle.sst_cli.specs.Meta.{footer_of}
 use Rattle.sst_cli.specs.TableParts.{index_rows_by}
 use Rattle.sst_cli.specs.Written.{Fits, data_part, index_rows, index_block, index_handle, metaindex_block, metaindex_handle, table_of}
-use Rattle.sst_cli.proofs.Footers.{length-handle}
+use Rattle.sst_meta.proofs.Footers.{length-handle}
 use Rattle.sst_cli.proofs.Stands.{length-frame, index-form}
 
 -- a builder of an index that has no row takes the row of the data block

@@ -11,11 +11,12 @@ use Rattle.sst_block.specs.declared.fault.BlockFault.{BlockFault}
 use Rattle.sst_block.specs.Block.{Row, Spelled}
 use Rattle.sst_block.specs.Reading.{block_read}
 use Rattle.sst_device.specs.FrameReading.{frame_read}
-use Rattle.sst_cli.specs.FooterReading.{footer_read, last_bytes}
+use Rattle.sst_key.specs.declared.calls.Format.{Format}
+use Rattle.sst_meta.specs.FooterReading.{footer_read, format_at, last_bytes}
 use Rattle.sst_device.specs.declared.frame.FrameFault.{FrameFault}
-use Rattle.sst_cli.specs.declared.footer.Footer.{Footer}
-use Rattle.sst_cli.specs.declared.meta_fault.MetaFault.{MetaFault}
-use Rattle.sst_cli.specs.declared.meta_fault.MetaFault.TheVariants as meta
+use Rattle.sst_meta.specs.declared.footer.Footer.{Footer}
+use Rattle.sst_meta.specs.declared.meta_fault.MetaFault.{MetaFault}
+use Rattle.sst_meta.specs.declared.meta_fault.MetaFault.TheVariants as meta
 use Rattle.sst_cli.specs.declared.bbt_fault.BbtFault.{BbtFault}
 use Rattle.sst_cli.specs.declared.bbt_fault.BbtFault.TheVariants as bbt
 
@@ -39,6 +40,17 @@ block_at frame block form file end h =
     then_open (as_fault frame (frame_read file end h))
     (λ bytes. then_open (as_fault block (block_read form bytes)) (λ spelled. Ok (rows_in spelled)))
 
+-- the footer by the format of the file; a plain or a cuckoo table isn't read yet
+abbrev pub by_format : List ℕ → Option Format → Result Footer MetaFault
+by_format tail None = footer_read tail
+by_format tail (Some Format.Block) = footer_read tail
+by_format tail (Some Format.Plain) = Err meta.NotYet
+by_format tail (Some Format.Cuckoo) = Err meta.NotYet
+
+-- what the last 53 bytes of a file say, or the whole of a shorter file
+unfoldable pub end_read : List ℕ → Result Footer MetaFault
+end_read tail = by_format tail (format_at tail)
+
 -- the index handle, if the metaindex has no row
 abbrev pub without_names : Footer → List Row → Result Handle MetaFault
 without_names footer [] = Ok footer.index
@@ -47,7 +59,7 @@ without_names footer (row ∷ rest) = Err meta.NotYet
 -- the index handle, or the first fault of the metaindex
 abbrev pub names_read : List ℕ → ℕ → Footer → Result Handle MetaFault
 names_read file end footer =
-    then_open (block_at meta.Frame (meta.Block footer.metaindex) Names file end footer.metaindex) (without_names footer)
+    then_open (block_at meta.Frame (meta.Block footer.meta) Names file end footer.meta) (without_names footer)
 
 -- where the footer of a file begins
 abbrev pub footer_start : List ℕ → ℕ
@@ -57,7 +69,7 @@ footer_start file = length file - 53
 unfoldable pub meta_read : List ℕ → Result Handle MetaFault
 meta_read file =
     if nat_lt (length file) (2 ^ 40)
-    then then_open (footer_read (last_bytes 53 file)) (names_read file (footer_start file))
+    then then_open (end_read (last_bytes 53 file)) (names_read file (footer_start file))
     else Err meta.FileLong
 
 -- the rows of a data block, of which there must be one

@@ -15,10 +15,8 @@ use Rattle.sst_block.specs.Block.{Row}
 use Rattle.sst_block.specs.Reading.{block_read}
 use Rattle.sst_cli.specs.TableBlocks.{Table, HasSeparator, blocks_of, row_blocks_of}
 use Rattle.sst_cli.specs.Opening.{RowBlock, then_open, as_fault, rows_in, meta_read, footer_start, block_at}
-use Rattle.sst_device.specs.declared.folder.DevStop.{DevStop}
-use Rattle.sst_device.specs.declared.folder.DevStop.TheVariants as device
-use Rattle.sst_cli.specs.declared.meta_fault.MetaFault.{MetaFault}
-use Rattle.sst_cli.specs.declared.meta_fault.MetaFault.TheVariants as meta
+use Rattle.sst_meta.specs.declared.meta_fault.MetaFault.{MetaFault}
+use Rattle.sst_meta.specs.declared.meta_fault.MetaFault.TheVariants as meta
 use Rattle.sst_cli.specs.declared.bbt_fault.BbtFault.{BbtFault}
 use Rattle.sst_cli.specs.declared.bbt_fault.BbtFault.TheVariants as bbt
 use Rattle.sst_cli.specs.declared.load.Loaded.{Loaded}

@@ -10,12 +10,12 @@ use Rattle.sst_block.specs.declared.fault.BlockFault.{BlockFault}
 use Rattle.sst_block.specs.Block.{Row, Block}
 use Rattle.sst_block.specs.Reading.{block_read}
 use Rattle.sst_device.specs.Framed.{Framed}
-use Rattle.sst_cli.specs.Meta.{block_based_magic, footer_back}
+use Rattle.sst_cli.specs.Meta.{footer_back}
 use Rattle.sst_device.specs.FrameReading.{frame_read}
-use Rattle.sst_cli.specs.FooterReading.{legacy_block_based_magic, plain_magic, legacy_plain_magic, cuckoo_magic}
+use Rattle.sst_meta.specs.Footer.{block_based_magic, legacy_block_based_magic, plain_magic, legacy_plain_magic, cuckoo_magic, AreHandles}
 use Rattle.sst_device.specs.declared.frame.FrameFault.{FrameFault}
-use Rattle.sst_cli.specs.declared.meta_fault.MetaFault.{MetaFault}
-use Rattle.sst_cli.specs.declared.meta_fault.MetaFault.TheVariants as meta
+use Rattle.sst_meta.specs.declared.meta_fault.MetaFault.{MetaFault}
+use Rattle.sst_meta.specs.declared.meta_fault.MetaFault.TheVariants as meta
 use Rattle.sst_cli.specs.declared.bbt_fault.BbtFault.{BbtFault}
 use Rattle.sst_cli.specs.declared.bbt_fault.BbtFault.TheVariants as bbt
 
@@ -40,12 +40,6 @@ pub record EndsIn (file : List ℕ) (end kind version : ℕ) (between : List ℕ
   pub long : length between ≡ 40
   pub end_is : end ≡ length front
   pub small : version < 2 ^ 32
-
--- some bytes begin with the spellings of two handles
-abbrev pub AreHandles : Handle → Handle → List ℕ → Type 0
-AreHandles metaindex index between =
-    (metaindex.offset < 2 ^ 64) × (metaindex.size < 2 ^ 64) × (index.offset < 2 ^ 64) × (index.size < 2 ^ 64)
-    × ((padding : List ℕ) × (between ≡ handle_spelling metaindex ++ (handle_spelling index ++ padding)))
 
 -- the version is one that is read
 abbrev pub IsBuilt : ℕ → Type 0

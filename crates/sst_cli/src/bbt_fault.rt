@@ -1,6 +1,6 @@
-use crate::meta_fault::MetaFault;
 use sst_block::BlockFault;
 use sst_device::FrameFault;
+use sst_meta::MetaFault;
 use sst_num::Handle;
 
 /// What is wrong with a block-based file.

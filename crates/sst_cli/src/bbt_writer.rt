@@ -13,8 +13,7 @@ ghost use Rattle.sst_cli.specs.Reasons.{reason, is_after};
 ghost use Rattle.sst_cli.specs.BlockBased.{rows_of};
 ghost use Rattle.sst_cli.specs.Written.{Fits, Written};
 
-use crate::footer::put_footer;
-use crate::table_parts::{index_block, metaindex_block, put_block, put_data};
+use crate::table_parts::{index_block, metaindex_block, put_block, put_data, put_footer};
 use sst_block::{BlockBuilder, RowForm};
 use sst_key::{EntryView, WriteFault, cmp_internal, pack};
 use sst_num::{Memory, Refused};

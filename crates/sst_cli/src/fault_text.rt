@@ -5,9 +5,9 @@ ghost use Rattle.sst_cli.specs.FaultText.{frame_fault_text, block_fault_text, me
 ghost use Rattle.sst_cli.specs.FaultText as texts;
 
 use crate::bbt_fault::BbtFault;
-use crate::meta_fault::MetaFault;
 use sst_block::BlockFault;
 use sst_device::FrameFault;
+use sst_meta::MetaFault;
 use sst_num::{Handle, Memory};
 use std::alloc::Global;
 use std::fmt;
@@ -78,18 +78,32 @@ fn within(handle: Handle, fault: BlockFault) -> BlockDamage
     }
 }
 
-impl fmt::Display for MetaFault {
-    ghost output = { λ fault. Some (meta_fault_text fault) };
+/// What is wrong with the end of a file.
+#[derive(Clone, Copy)]
+struct MetaDamage {
+    /// What is wrong.
+    fault: MetaFault,
+}
+
+/// What is wrong with the end of the file.
+fn ending(fault: MetaFault) -> MetaDamage
+    ensures { result.fault ≡ fault }
+{
+    MetaDamage { fault }
+}
+
+impl fmt::Display for MetaDamage {
+    ghost output = { λ damage. Some (meta_fault_text damage.fault) };
 
     fn fmt<W: fmt::Write>(&self, f: &mut fmt::Formatter<W>) -> fmt::Result {
-        match self {
+        match self.fault {
             MetaFault::NotTable => f.write_str("not-table"),
             MetaFault::Version(version) => write!(f, "version {version}"),
             MetaFault::ChecksumType(kind) => write!(f, "checksum-type {kind}"),
             MetaFault::BadFooter => f.write_str("footer"),
             MetaFault::FileLong => f.write_str("file-long"),
-            MetaFault::Frame(fault) => write!(f, "{}", stored(*fault)),
-            MetaFault::Block(handle, fault) => write!(f, "{}", within(*handle, *fault)),
+            MetaFault::Frame(fault) => write!(f, "{}", stored(fault)),
+            MetaFault::Block(handle, fault) => write!(f, "{}", within(handle, fault)),
             MetaFault::NotYet => f.write_str("not-yet"),
         }
     }
@@ -100,7 +114,7 @@ impl fmt::Display for BbtFault {
 
     fn fmt<W: fmt::Write>(&self, f: &mut fmt::Formatter<W>) -> fmt::Result {
         match self {
-            BbtFault::Meta(fault) => write!(f, "{fault}"),
+            BbtFault::Meta(fault) => write!(f, "{}", ending(*fault)),
             BbtFault::Frame(fault) => write!(f, "{}", stored(*fault)),
             BbtFault::Block(handle, fault) => write!(f, "{}", within(*handle, *fault)),
             BbtFault::EmptyBlock(h) => write!(f, "empty-block {} {}", h.offset, h.size),

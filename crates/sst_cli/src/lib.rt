@@ -89,7 +89,7 @@
 //!
 //! # For now
 //!
-//! A part whose crate comes later stands here, and moves unchanged: the footer and the metaindex (`footer`, `load`); the
+//! A part whose crate comes later stands here, and moves unchanged: the metaindex (`load`); the
 //! writer (`bbt_writer`, `table_parts`); and the reader (`bbt_reader`). The whole file is made in memory, with one data
 //! block at most, and then added to OUT; a reader keeps all entries in memory.
 #![tactic(auto)]
@@ -109,12 +109,10 @@ mod cuts;
 mod entry_line;
 mod fault_text;
 mod fields;
-mod footer;
 mod laws;
 mod lines;
 mod list_search;
 mod load;
-mod meta_fault;
 mod opening_laws;
 mod printing;
 mod produce;
@@ -129,12 +127,10 @@ mod words;
 mod write_command;
 
 pub use bbt_fault::BbtFault;
-pub use footer::Footer;
 pub use laws::{
     a_call_line_reads_back, a_call_list_reads_back, a_list_reads_back, an_entry_line_reads_back,
     written_file_stands_for_its_list,
 };
-pub use meta_fault::MetaFault;
 pub use opening_laws::{
     a_fault_is_shown, a_file_opens_to_its_rows, a_file_stands_for_one_list,
     a_file_that_opens_shows_no_fault, a_footer_is_read, a_written_file_reads_back,

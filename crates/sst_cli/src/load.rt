@@ -3,17 +3,17 @@ ghost use Rattle.std.specs.Prelude.{◌≡◌, ◌≢◌, ℕ, ◌-◌, ◌≤�
 ghost use Rattle.sst_block.specs.declared.row_form.RowForm.TheVariants.{Names};
 ghost use Rattle.sst_device.specs.Folder.{file_of, misses};
 ghost use Rattle.sst_device.specs.Faults.{Rose};
-ghost use Rattle.sst_cli.specs.FooterReading.{last_bytes};
+ghost use Rattle.sst_meta.specs.FooterReading.{last_bytes};
 ghost use Rattle.sst_cli.specs.Opening as opening;
-ghost use Rattle.sst_cli.specs.Opening.{then_open, names_read};
+ghost use Rattle.sst_cli.specs.Opening.{then_open, end_read, names_read};
 ghost use Rattle.sst_device.specs.Stops.{Answers, stop_as};
 ghost use Rattle.sst_cli.specs.Reader.{Loads, rows_checked};
-ghost use Rattle.sst_cli.specs.declared.meta_fault.MetaFault.TheVariants as meta;
+ghost use Rattle.sst_meta.specs.declared.meta_fault.MetaFault.TheVariants as meta;
 
-use crate::footer::{Footer, read_footer};
-use crate::meta_fault::MetaFault;
 use sst_block::{RowForm, check_block};
 use sst_device::{DevStop, Folder, FrameFault, draw, draw_framed};
+use sst_key::Format;
+use sst_meta::{Footer, MetaFault, format_of, read_footer};
 use sst_num::{Bytes, Handle, Refused, Stop};
 use std::alloc::Global;
 
@@ -53,7 +53,7 @@ pub fn load<F: Folder>(alloc: Global, files: &mut F, name: &str) -> Result<Loade
         return Err(Stop::Damage(MetaFault::FileLong));
     }
     let tail = draw_tail(alloc, files, name, len)?;
-    match read_footer(tail.as_slice()) {
+    match read_end(tail.as_slice()) {
         Err(fault) => Err(Stop::Damage(fault)),
         Ok(footer) => {
             let end = len.saturating_sub(TAIL_LENGTH);
@@ -83,6 +83,19 @@ fn draw_tail<F: Folder>(
     draw(alloc, files, name, len - count, count as usize)
 }
 
+/// The footer of a file by its last 53 bytes or all of a shorter file. A plain or a cuckoo table isn't read yet.
+#[tactic(auto, unfolding(crate::specs::Opening::end_read))]
+fn read_end(tail: &[u8]) -> Result<Footer, MetaFault>
+    ensures exact { result ≡ end_read tail.now }
+{
+    match format_of(tail) {
+        None => read_footer(tail),
+        Some(Format::Block) => read_footer(tail),
+        Some(Format::Plain) => Err(MetaFault::NotYet),
+        Some(Format::Cuckoo) => Err(MetaFault::NotYet),
+    }
+}
+
 /// The stop of a metaindex block that isn't had.
 fn frame_stop(stop: Stop<FrameFault>) -> Stop<MetaFault>
     ensures { result ≡ stop_as meta.Frame stop }
@@ -97,15 +110,13 @@ fn frame_stop(stop: Stop<FrameFault>) -> Stop<MetaFault>
 /// The index handle of a footer, if the metaindex block has no row.
 fn without_names(alloc: Global, block: &[u8], footer: Footer) -> Result<Handle, Stop<MetaFault>>
     requires { length block.now ≤ 2 ^ 29 }
-    ensures told { Answers result (then_open (rows_checked (meta.Block footer.metaindex) Names block.now) (opening.without_names footer)) }
+    ensures told { Answers result (then_open (rows_checked (meta.Block footer.meta) Names block.now) (opening.without_names footer)) }
     ensures device { result ≢ Err Stop.Device }
 {
     match check_block(alloc, block, RowForm::Names) {
         Ok(0) => Ok(footer.index),
         Ok(_) => Err(Stop::Damage(MetaFault::NotYet)),
-        Err(Refused::Cause(fault)) => {
-            Err(Stop::Damage(MetaFault::Block(footer.metaindex, fault)))
-        }
+        Err(Refused::Cause(fault)) => { Err(Stop::Damage(MetaFault::Block(footer.meta, fault))) }
         Err(Refused::Memory) => Err(Stop::Memory),
     }
 }
@@ -125,7 +136,7 @@ fn read_names<F: Folder>(
     ensures same_files { F.held files.new ≡ F.held files.old }
     ensures counts { F.faults files.old ≤ F.faults files.new }
 {
-    match draw_framed(alloc, files, name, end, footer.metaindex) {
+    match draw_framed(alloc, files, name, end, footer.meta) {
         Err(stop) => Err(frame_stop(stop)),
         Ok(block) => without_names(alloc, block.as_slice(), footer),
     }

@@ -1,16 +1,18 @@
 //! What a file reads as is what it stands for.
 ghost use Rattle.std.specs.Prelude.{◌≡◌, ◌⊎◌, ℕ, ◌-◌, List, length, All, Ok, Err};
 ghost use Rattle.hex.specs.Hex.{IsBytes};
+ghost use Rattle.sst_num.specs.declared.block_handle.Handle.{Handle};
 ghost use Rattle.sst_key.specs.declared.entries.Entry.{Entry};
 ghost use Rattle.sst_key.specs.Entry.{IsOrdered};
 ghost use Rattle.sst_block.specs.Block.{Row};
 ghost use Rattle.sst_cli.specs.BlockBased.{BlockBased, HasSeq, Opens, rows_of};
 ghost use Rattle.sst_cli.specs.Written.{Fits, table_of};
-ghost use Rattle.sst_cli.specs.FooterReading.{footer_read, last_bytes};
-ghost use Rattle.sst_cli.specs.Opening.{open_read};
+ghost use Rattle.sst_meta.specs.FooterReading.{last_bytes};
+ghost use Rattle.sst_cli.specs.Meta.{block_footer};
+ghost use Rattle.sst_cli.specs.Opening.{end_read, open_read};
 ghost use Rattle.sst_cli.specs.Shows.{FooterLeads, Shows, ShowsMeta};
-ghost use Rattle.sst_cli.specs.declared.footer.Footer.{Footer};
-ghost use Rattle.sst_cli.specs.declared.meta_fault.MetaFault.{MetaFault};
+ghost use Rattle.sst_meta.specs.declared.footer.Footer.{Footer};
+ghost use Rattle.sst_meta.specs.declared.meta_fault.MetaFault.{MetaFault};
 ghost use Rattle.sst_cli.specs.declared.bbt_fault.BbtFault.{BbtFault};
 
 /// What the last 53 bytes of a file read as is what its footer says, or a fault that the file shows.
@@ -19,12 +21,13 @@ ghost use Rattle.sst_cli.specs.declared.bbt_fault.BbtFault.{BbtFault};
 /// holds where the last 53 numbers of the list are bytes, as those of a real file are.
 /// RocksDB: `Footer::DecodeFrom` in table/format.cc.
 pub fn a_footer_is_read()
-    ensures complete { (file : List ℕ) (footer : Footer) → FooterLeads file (length file - 53) footer.metaindex footer.index
-        → footer_read (last_bytes 53 file) ≡ Ok footer }
-    ensures sound { (file : List ℕ) (footer : Footer) → footer_read (last_bytes 53 file) ≡ Ok footer
-        → FooterLeads file (length file - 53) footer.metaindex footer.index }
+    ensures complete { (file : List ℕ) (metaindex index : Handle) (leads : FooterLeads file (length file - 53) metaindex index)
+        → end_read (last_bytes 53 file) ≡ Ok (block_footer leads.version metaindex index) }
+    ensures sound { (file : List ℕ) (footer : Footer) → end_read (last_bytes 53 file) ≡ Ok footer
+        → (leads : FooterLeads file (length file - 53) footer.meta footer.index)
+        × (footer ≡ block_footer leads.version footer.meta footer.index) }
     ensures faults { (file : List ℕ) (fault : MetaFault) → IsBytes (last_bytes 53 file)
-        → footer_read (last_bytes 53 file) ≡ Err fault → ShowsMeta file fault }
+        → end_read (last_bytes 53 file) ≡ Err fault → ShowsMeta file fault }
 {}
 
 /// A file opens to a list of entries exactly where it reads as their rows.

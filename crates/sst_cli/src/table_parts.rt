@@ -1,11 +1,12 @@
 //! The parts of a block-based file, which are appended in order.
-ghost use Rattle.std.specs.Prelude.{◌≡◌, ℕ, ◌-◌, ◌≤◌, false, List, ◌++◌, length, All, IfOk, OnOk};
+ghost use Rattle.std.specs.Prelude.{◌≡◌, ℕ, ◌-◌, ◌≤◌, false, List, ◌++◌, length, All, IfOk, OnOk, OnErr};
 ghost use Rattle.sst_key.specs.declared.entries.Entry.{Entry};
 ghost use Rattle.sst_block.specs.declared.row_form.RowForm.TheVariants.{Entries, Index};
 ghost use Rattle.sst_block.specs.Block.{IsRow};
 ghost use Rattle.sst_block.specs.Builder.{Holds};
 ghost use Rattle.sst_block.specs.Chosen.{block_of};
 ghost use Rattle.sst_cli.specs.After.{data_of};
+ghost use Rattle.sst_cli.specs.Meta.{footer_of};
 ghost use Rattle.sst_cli.specs.BlockBased.{rows_of};
 ghost use Rattle.sst_device.specs.Framed.{frame_of};
 ghost use Rattle.sst_cli.specs.TableParts.{index_rows_by};
@@ -13,11 +14,21 @@ ghost use Rattle.sst_cli.specs.Written as written;
 
 use sst_block::{BlockBuilder, RowForm};
 use sst_device::put_frame;
+use sst_key::Format;
+use sst_meta::Footer;
 use sst_num::{Bytes, Handle, Memory, put_handle};
 use std::alloc::Global;
 
 /// A restart stands at each row of an index block and of a metaindex block.
 const EACH_ROW: u32 = 1;
+
+/// The version of the format that is written.
+const VERSION: u32 = 2;
+
+/// The checksum type of a file whose blocks have a masked CRC32C.
+///
+/// RocksDB: `kCRC32c` in include/rocksdb/table.h.
+const CHECKSUM_TYPE: u8 = 1;
 
 /// Appends a block and its trailer, and answers where the block stands in the file, which begins at `start` of
 /// `out`.
@@ -96,4 +107,24 @@ pub fn metaindex_block(alloc: Global) -> Result<Bytes, Memory>
     ensures { IfOk result (λ block. block ≡ written.metaindex_block) }
 {
     BlockBuilder::new(alloc, RowForm::Names, EACH_ROW, false)?.finish()
+}
+
+/// Appends the footer of 53 bytes that ends a block-based file of version 2.
+///
+/// Where memory runs out, `out` holds its old bytes followed by any.
+/// RocksDB: `FooterBuilder::Build` in table/format.cc.
+#[tactic(auto, unfolding(crate::specs::Meta::footer_of))]
+pub fn put_footer(out: &mut Vec<u8>, metaindex: Handle, index: Handle) -> Result<(), Memory>
+    ensures ok { OnOk result (out.new.items ≡ out.old.items ++ footer_of metaindex index) }
+    ensures err { OnErr result ((rest : List ℕ) × (out.new.items ≡ out.old.items ++ rest)) }
+{
+    let footer = Footer {
+        format: Format::Block,
+        legacy: false,
+        version: VERSION,
+        checksum: CHECKSUM_TYPE,
+        meta: metaindex,
+        index,
+    };
+    sst_meta::put_footer(out, &footer)
 }

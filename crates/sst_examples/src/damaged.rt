@@ -87,7 +87,7 @@ pub(crate) fn assert_refused(
 }
 
 /// Files whose end is at fault.
-static FOOTERS: [(&[&str], &str); 35] = [
+static FOOTERS: [(&[&str], &str); 37] = [
     // No byte.
     (&[], "not-table"),
     // Less than a magic number.
@@ -160,6 +160,9 @@ static FOOTERS: [(&[&str], &str); 35] = [
     ),
     (&["35081a16", ZEROS, LEGACY_PLAIN_MAGIC], "not-yet"),
     (&[FRONT, ZEROS, "01000000", CUCKOO_MAGIC], "not-yet"),
+    // The same with handles that are none.
+    (&["01ffffffff", ZEROS, VERSION, PLAIN_MAGIC], "not-yet"),
+    (&["ffffffff", ZEROS, LEGACY_PLAIN_MAGIC], "not-yet"),
     // The same with a byte less than their footers.
     (&["35081a16", ZEROS, VERSION, PLAIN_MAGIC], "not-table"),
     (&["081a16", ZEROS, LEGACY_PLAIN_MAGIC], "not-table"),

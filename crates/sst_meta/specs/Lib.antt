@@ -1,3 +1,5 @@
 pub mod Builder
 pub mod Pairs
+pub mod Footer
+pub mod FooterReading
 pub mod PropsBlock

@@ -1,9 +1,23 @@
-//! Meta blocks: what a table file says of itself.
+//! Footers and meta blocks: what a table file says of itself.
 //!
 //! A meta block is a block of names and values, in bytewise order of the names. One of them holds the properties of the
 //! table: how many entries it has, how they are ordered, what its format is. The metaindex, which says where the other
-//! meta blocks stand, is such a block too. This crate stands on the blocks of `sst_block`; the readers and writers of
-//! tables are to stand on it. Footers, and what is looked up in a file, are to come.
+//! meta blocks stand, is such a block too. The footer, which ends the file, says where the metaindex and the index
+//! stand, and of which format and version the file is. This crate stands on the blocks of `sst_block`; the readers and
+//! writers of tables stand on it. What is looked up in a file is to come.
+//!
+//! # Layout of a footer
+//!
+//! ```text
+//! | checksum type | metaindex handle | index handle | zeros | version | magic number |   53 bytes
+//!   1 byte          up to byte 41                             4 bytes   8 bytes
+//!
+//!                 | metaindex handle | index handle | zeros | magic number |             48 bytes, version 0
+//!                   up to byte 40                             8 bytes
+//! ```
+//!
+//! The magic number says whether the file is block-based, a plain table or a cuckoo table, and which of the two footers
+//! it has. RocksDB: `FooterBuilder::Build` and `Footer::DecodeFrom` in table/format.cc.
 //!
 //! # Layout of a block of properties
 //!
@@ -45,6 +59,10 @@
 //!
 //! # What is promised
 //!
+//! [`read_footer`] answers what the end of a file says, exactly, or the first thing that is wrong with it (`footer_read`,
+//! specs/FooterReading.antt); [`put_footer`] appends the bytes of a footer (`footer_spelling`, specs/Footer.antt); and
+//! what is put is read back ([`a_footer_reads_back`]).
+//!
 //! [`PropsBuilder`] takes names in bytewise order, and makes the one block of them: `block_of 65536` of the pairs
 //! (specs/Chosen.antt of `sst_block`), which is `properties_block` (specs/PropsBlock.antt). Where memory runs out a call
 //! answers so, and so does each later call of that builder.
@@ -56,7 +74,12 @@
 #![tactic(auto)]
 
 mod builder;
+mod footer;
+mod footer_laws;
+#[cfg(test)]
+mod footer_tests;
 mod laws;
+mod meta_fault;
 pub mod names;
 mod pair;
 mod props;
@@ -64,5 +87,8 @@ mod props;
 mod tests;
 
 pub use builder::PropsBuilder;
+pub use footer::{Footer, format_of, put_footer, read_footer};
+pub use footer_laws::a_footer_reads_back;
 pub use laws::{a_name_has_one_value, properties_have_one_restart};
+pub use meta_fault::MetaFault;
 pub use props::Props;

@@ -4,10 +4,10 @@
 use super::{BbtReader, open};
 use crate::bbt_fault::BbtFault;
 use crate::fault_text::fault_line;
-use crate::meta_fault::MetaFault;
 use crate::produce::produce;
 use sst_device::{FrameFault, MemFolder, MemIntake};
 use sst_key::Kind;
+use sst_meta::MetaFault;
 use sst_num::{Handle, Stop, put_fixed32};
 use sst_sums::{crc32c, mask};
 use std::alloc::Global;

@@ -1,7 +1,7 @@
 use Rattle.std.proofs.Common.{arith, ◌≡◌, ◌∙◌, length, Ok, Some, Option, ap}
 use Rattle.sst_device.specs.Folder.{Files, file_of}
-use Rattle.sst_cli.specs.FooterReading.{footer_read, last_bytes}
-use Rattle.sst_cli.specs.Opening.{footer_start}
+use Rattle.sst_meta.specs.FooterReading.{last_bytes}
+use Rattle.sst_cli.specs.Opening.{end_read, footer_start}
 use Rattle.sst_cli.proofs.Loading.{names_stop}
 use Rattle.sst_cli.proofs.load.load.Goals as goal
 
@@ -12,7 +12,7 @@ returns-clause-told g c = λ file told.
     let sized : file_of (g.F.Folder.held c.size.new.self) name ≡ Some file = ap (λ (h : Option Files). file_of h name) c.size.ensures.same_files ∙ told in
     let drawn : file_of (g.F.Folder.held c.draw_tail.new.files) name ≡ Some file = ap (λ (h : Option Files). file_of h name) c.draw_tail.ensures.same_files ∙ sized in
     let tail = c.in_ok-tail.ensures.bytes file sized len in
-    let foot : footer_read (last_bytes 53 file) ≡ Ok c.in-Ok.footer = cc (tail, c.in-Ok.ensures.exact) in
+    let foot : end_read (last_bytes 53 file) ≡ Ok c.in-Ok.footer = cc (tail, c.in-Ok.ensures.exact) in
     let end : c.saturating_sub-end.result ≡ footer_start file = omega arith in
     let names = c.in-Err-read_names.ensures.told file drawn (omega arith) in
     names_stop c.in-Err-read_names.stop file c.in-Ok.footer (omega arith) foot (rw end at names)

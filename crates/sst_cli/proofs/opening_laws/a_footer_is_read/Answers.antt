@@ -2,7 +2,7 @@ use Rattle.sst_cli.proofs.FooterLaws.{footer_read-leads, leads-read, footer_read
 use Rattle.sst_cli.proofs.opening_laws.a_footer_is_read.Goals as goal
 
 pub returns-clause-complete : goal.returns-clause-complete
-returns-clause-complete c = λ file footer leads. (footer_read-leads file _ footer.metaindex footer.index leads).1
+returns-clause-complete c = λ file metaindex index leads. (footer_read-leads file _ metaindex index leads).1
 
 pub returns-clause-sound : goal.returns-clause-sound
 returns-clause-sound c = leads-read

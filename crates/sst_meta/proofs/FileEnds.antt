@@ -1,13 +1,12 @@
 -- The last bytes of a file: the magic number there, and the fields of a footer.
-use Rattle.std.proofs.Common.{◌≡◌, ℕ, zero, suc, ◌+◌, ◌-◌, ◌*◌, ◌^◌, ◌<◌, ◌≤◌, List, [], ◌∷◌, ◌++◌, length, take, drop, Option, None, Some, nat_lt, if◌then◌else◌, get_or, refl, sym, ap, subst, ◌∙◌, inl, inr, length-append, length-drop, arith}
+use Rattle.std.proofs.Common.{◌≡◌, ℕ, zero, suc, ◌+◌, ◌-◌, ◌*◌, ◌^◌, ◌<◌, ◌≤◌, List, [], ◌∷◌, ◌++◌, length, take, drop, Option, None, Some, get_or, refl, sym, ap, subst, ◌∙◌, inl, inr, length-append, length-drop, arith}
 use Rattle.std.specs.Option.{option_map}
 use Rattle.std.proofs.lemmas.Bool.{cases_lt, lt-ltb, le-ltb}
-use Rattle.std.proofs.lemmas.List.{append-nil, drop-drop, take-append-drop, take_all, drop_at, get_or-drop}
-use Rattle.hex.specs.Hex.{IsBytes}
+use Rattle.std.proofs.lemmas.List.{append-nil, drop-drop, take-append-drop, take_all, drop_at}
 use Rattle.sst_num.specs.Spelling.{fixed}
 use Rattle.sst_num.specs.Reading.{fixed_at}
 use Rattle.sst_num.proofs.FixedAt.{fixed_at-fixed, fixed_at-found}
-use Rattle.sst_cli.specs.FooterReading.{last_bytes}
+use Rattle.sst_meta.specs.FooterReading.{last_bytes, number_at_end}
 
 -- the last bytes of a joined list
 pub last_bytes-joined : (n : ℕ) (front last : List ℕ) → length last ≡ n → last_bytes n (front ++ last) ≡ last
@@ -29,13 +28,6 @@ pub last_bytes-split : (n : ℕ) (bytes : List ℕ) → bytes ≡ take (length b
 last_bytes-split n bytes = sym (take-append-drop (length bytes - n) bytes)
 
 -- the number in the last eight bytes
-unfoldable pub number_at_end : List ℕ → Option ℕ
-number_at_end tail = if nat_lt (length tail) 8 then None else fixed_at 8 (last_bytes 8 tail)
-
-pub number_at_end-is : (tail : List ℕ) → (if nat_lt (length tail) 8 then None else fixed_at 8 (last_bytes 8 tail)) ≡ number_at_end tail
-unfolding number_at_end
-number_at_end-is tail = refl
-
 pub number_at_end-fixed : (tail : List ℕ) (m : ℕ) → m < 256 ^ 8 → 8 ≤ length tail → last_bytes 8 tail ≡ fixed 8 m → number_at_end tail ≡ Some m
 unfolding number_at_end
 number_at_end-fixed tail m fits long is =
@@ -63,9 +55,6 @@ fixed_at-bytes (suc n) (b ∷ bytes) long are none =
       | None ↦ λ is _. fixed_at-bytes n bytes (omega arith) (λ i. are (suc i)) is
       | Some high ↦ λ is e. cc
     ] refl e
-
-pub IsBytes-drop : (n : ℕ) (bytes : List ℕ) → IsBytes bytes → (i : ℕ) → get_or (drop n bytes) i 0 < 256
-IsBytes-drop n bytes are i = rw (get_or-drop n bytes i 0) (are (n + i))
 
 -- three parts after one another
 pub cut_three : (a b : ℕ) (rest middle last : List ℕ) → drop a rest ≡ middle ++ drop b (drop a rest) → drop b (drop a rest) ≡ last
