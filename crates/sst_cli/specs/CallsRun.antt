@@ -1,5 +1,5 @@
 -- What a `calls` comes to: the text that it prints, the status that it ends with, and what it leaves.
-use Rattle.std.specs.Prelude.{◌≡◌, ℕ, List, [], Option, Some, None, Result, Ok, Err, IsTrue, All}
+use Rattle.std.specs.Prelude.{◌≡◌, ◌⊎◌, ℕ, List, [], Option, Some, None, Result, Ok, Err, IsTrue, All}
 use Rattle.std.specs.Io.KnownBytes.{append_known}
 use Rattle.sst_key.specs.declared.entries.Entry.{Entry}
 use Rattle.sst_key.specs.declared.calls.Call.{Call}
@@ -7,14 +7,14 @@ use Rattle.sst_cli.specs.BlockBased.{HasSeq}
 use Rattle.sst_device.specs.Folder.{Files, file_of, misses}
 use Rattle.sst_cli.specs.FaultText.{fault_text}
 use Rattle.sst_cli.specs.Opening.{RowBlock, open_read, blocks_read}
-use Rattle.sst_cli.specs.Reading.{read_calls}
+use Rattle.sst_cli.specs.Reading.{read_input, read_calls}
 use Rattle.sst_cli.specs.Refusals.{refusal_text}
 use Rattle.sst_cli.specs.Replies.{answers_text, way_text}
 use Rattle.sst_cli.specs.Run.{IsWriteText, usage_text}
 use Rattle.sst_cli.specs.Shows.{Shows}
 use Rattle.sst_cli.specs.TableBlocks.{row_blocks_of}
 use Rattle.sst_cli.specs.Way.{IndexedBlock, joined}
-use Rattle.sst_cli.specs.Words.{calls_name}
+use Rattle.sst_cli.specs.Words.{out_name, calls_name}
 use Rattle.sst_cli.specs.declared.bbt_fault.BbtFault.{BbtFault}
 use Rattle.sst_cli.specs.declared.refusal.Refusal.{Refusal}
 use Rattle.sst_cli.specs.declared.program.Status.{Status}
@@ -85,6 +85,12 @@ IsOtherText held input (Some name) text = IsCallsText (file_of held name) input 
 abbrev pub IsTextFor : List (List ℕ) → Option Files → Option (List ℕ) → Option (List ℕ) → List ℕ → Type 0
 IsTextFor words held input None text = IsOtherText held input (calls_name words) text
 IsTextFor words held input (Some name) text = IsWriteText input text
+
+-- the words are a command, and this input of it is refused
+abbrev pub IsRefusedInput : List (List ℕ) → List ℕ → Type 0
+IsRefusedInput words text =
+    ((name : List ℕ) × (refusal : Refusal) × (out_name words ≡ Some name) × (read_input text ≡ Err refusal))
+    ⊎ ((name : List ℕ) × (refusal : Refusal) × (calls_name words ≡ Some name) × (read_calls text ≡ Err refusal))
 
 -- the folder tells that it lacks the file, and the input, where it is told, reads as calls
 pub record IsLacking (held : Option Files) (name : List ℕ) (input : Option (List ℕ)) : Type 0 where

@@ -99,6 +99,8 @@ pub fn calls<F: Folder, I: Intake, O: Sink>(
     ensures printed { (text : List ℕ) × IsCallsText (file_of (F.held files.old) name.now) (I.left input.old) text
         × Prints result text (O.written out.old) (O.written out.new) }
     ensures ends { (result ≡ Status.Done) ⊎ ((result ≡ Status.Input) ⊎ ((result ≡ Status.File) ⊎ IsFault result)) }
+    ensures input { result ≡ Status.Input → (text : List ℕ) → I.left input.old ≡ Some text
+        → (refusal : Refusal) × (reading.read_calls text ≡ Err refusal) }
     ensures damaged { result ≡ Status.File → (file : List ℕ) → file_of (F.held files.old) name.now ≡ Some file
         → (fault : faults.BbtFault) × (open_read file ≡ Err fault) }
     ensures absent { IsTrue (misses (F.held files.old) name.now 0) → (result ≡ Status.Input) ⊎ IsFault result }

@@ -7,7 +7,7 @@ ghost use Rattle.sst_key.specs.declared.calls.Call.{Call};
 ghost use Rattle.sst_key.specs.declared.entries.Entry.{Entry};
 ghost use Rattle.sst_cli.specs.BlockBased.{Opens, BlockBased};
 ghost use Rattle.sst_cli.specs.CallText.{calls_text, AreInLimits, AreOfBytes};
-ghost use Rattle.sst_cli.specs.CallsRun.{Answered, AnsweredByWay, IsDamaged, IsLacking, IsTextFor};
+ghost use Rattle.sst_cli.specs.CallsRun.{Answered, AnsweredByWay, IsDamaged, IsLacking, IsRefusedInput, IsTextFor};
 ghost use Rattle.sst_cli.specs.EntryText.{lines_text, AreBytes};
 ghost use Rattle.sst_device.specs.Faults.{Rose};
 ghost use Rattle.sst_device.specs.Folder.{file_of, misses};
@@ -170,6 +170,8 @@ pub fn run<F: Folder, I: Intake, O: Sink>(
     // cause.
     ensures usage_only { result ≡ Status.Usage
         → (line.out_name (map string_bytes words.now) ≡ None) × (line.calls_name (map string_bytes words.now) ≡ None) }
+    ensures input_only { result ≡ Status.Input → (text : List ℕ) → I.left input.old ≡ Some text
+        → IsRefusedInput (map string_bytes words.now) text }
     ensures file_only { result ≡ Status.File → (name : List ℕ) × (line.calls_name (map string_bytes words.now) ≡ Some name)
         × ((file : List ℕ) → file_of (F.held files.old) name ≡ Some file → (fault : BbtFault) × (open_read file ≡ Err fault)) }
     ensures never { result ≢ Status.Exhausted }

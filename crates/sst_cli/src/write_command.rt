@@ -34,6 +34,8 @@ pub fn write<F: Folder, I: Intake, O: Sink>(
     ensures printed { (text : List ℕ) × IsWriteText (I.left input.old) text
         × Prints result text (O.written out.old) (O.written out.new) }
     ensures ends { (result ≡ Status.Done) ⊎ ((result ≡ Status.Input) ⊎ IsFault result) }
+    ensures input { result ≡ Status.Input → (text : List ℕ) → I.left input.old ≡ Some text
+        → (refusal : Refusal) × (read_input text ≡ Err refusal) }
     ensures device { result ≡ Status.Device → Rose (F.faults files.old) (F.faults files.new)
         ⊎ (Rose (I.faults input.old) (I.faults input.new) ⊎ Rose (O.faults out.old) (O.faults out.new)) }
     ensures others { ChangesOnly name.now (F.held files.old) (F.held files.new) }

@@ -1,4 +1,4 @@
-use Rattle.std.proofs.Common.{ℕ, List, Option, map, refl, subst}
+use Rattle.std.proofs.Common.{ℕ, List, Option, map, refl, sym, subst, inl, inr}
 use Rattle.std.specs.String.{string_bytes}
 use Rattle.sst_cli.specs.CallText.{calls_text}
 use Rattle.sst_cli.specs.CallsRun.{IsTextFor, IsOtherText}
@@ -62,3 +62,13 @@ returns-in-None-calls_name-clause-printed g c =
       subst (λ (o : Option (List ℕ)). IsTextFor words held left o usage_text) c.in-None.ensures no_name,
       some_printed c.print.result _ usage_text (g.O.Sink.written c.args.out.now) (g.O.Sink.written c.print.new.out) (g.O.Sink.faults c.args.out.now) (g.O.Sink.faults c.print.new.out) printed,
     )
+
+pub returns-in-Some-clause-input_only : goal.returns-in-Some-clause-input_only
+returns-in-Some-clause-input_only g c = λ is text left.
+    let found = c.write.ensures.input is text left in
+    inl (c.in-Some.name.now, found.0, sym c.in-Some.ensures, found.1)
+
+pub returns-in-Some-calls_name-clause-input_only : goal.returns-in-Some-calls_name-clause-input_only
+returns-in-Some-calls_name-clause-input_only g c = λ is text left.
+    let found = c.calls.ensures.input is text left in
+    inr (c.in-Some-calls_name.name.now, found.0, sym c.in-Some-calls_name.ensures, found.1)
