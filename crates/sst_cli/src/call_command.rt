@@ -2,6 +2,8 @@
 ghost use Rattle.std.specs.Prelude.{◌≡◌, ◌≢◌, ◌⊎◌, ℕ, ◌≤◌, List, [], Option, Some, Ok, Err, IsTrue, IfSome};
 ghost use Rattle.std.specs.Io.KnownBytes.{append_known};
 ghost use Rattle.sst_key.specs.declared.calls.Call.{Call};
+ghost use Rattle.sst_key.specs.declared.entries.Entry.{Entry};
+ghost use Rattle.sst_cli.specs.BlockBased.{Opens};
 ghost use Rattle.sst_cli.specs.CallsRun.{IsAnswered, IsAnswersText, IsCallsText, IsLacking};
 ghost use Rattle.sst_cli.specs.FaultText.{fault_text};
 ghost use Rattle.sst_device.specs.Faults.{Rose};
@@ -64,6 +66,8 @@ fn answer_calls<F: Folder, O: Sink>(
     ensures printed { (text : List ℕ) × IsAnswersText (file_of (F.held files.old) name.now) calls.now text
         × Prints result text (O.written out.old) (O.written out.new) }
     ensures ends { (result ≡ Status.Done) ⊎ ((result ≡ Status.File) ⊎ IsFault result) }
+    ensures opened { result ≡ Status.Done → (file : List ℕ) → file_of (F.held files.old) name.now ≡ Some file
+        → (entries : List Entry) × Opens file entries }
     ensures damaged { result ≡ Status.File → (file : List ℕ) → file_of (F.held files.old) name.now ≡ Some file
         → (fault : faults.BbtFault) × (open_read file ≡ Err fault) }
     ensures absent { IsTrue (misses (F.held files.old) name.now 0) → IsFault result }
@@ -101,6 +105,8 @@ pub fn calls<F: Folder, I: Intake, O: Sink>(
     ensures ends { (result ≡ Status.Done) ⊎ ((result ≡ Status.Input) ⊎ ((result ≡ Status.File) ⊎ IsFault result)) }
     ensures input { result ≡ Status.Input → (text : List ℕ) → I.left input.old ≡ Some text
         → (refusal : Refusal) × (reading.read_calls text ≡ Err refusal) }
+    ensures opened { result ≡ Status.Done → (file : List ℕ) → file_of (F.held files.old) name.now ≡ Some file
+        → (entries : List Entry) × Opens file entries }
     ensures damaged { result ≡ Status.File → (file : List ℕ) → file_of (F.held files.old) name.now ≡ Some file
         → (fault : faults.BbtFault) × (open_read file ≡ Err fault) }
     ensures absent { IsTrue (misses (F.held files.old) name.now 0) → (result ≡ Status.Input) ⊎ IsFault result }

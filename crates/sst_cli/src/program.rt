@@ -172,6 +172,8 @@ pub fn run<F: Folder, I: Intake, O: Sink>(
         → (line.out_name (map string_bytes words.now) ≡ None) × (line.calls_name (map string_bytes words.now) ≡ None) }
     ensures input_only { result ≡ Status.Input → (text : List ℕ) → I.left input.old ≡ Some text
         → IsRefusedInput (map string_bytes words.now) text }
+    ensures done_only { result ≡ Status.Done → (name file : List ℕ) → line.calls_name (map string_bytes words.now) ≡ Some name
+        → file_of (F.held files.old) name ≡ Some file → (entries : List Entry) × Opens file entries }
     ensures file_only { result ≡ Status.File → (name : List ℕ) × (line.calls_name (map string_bytes words.now) ≡ Some name)
         × ((file : List ℕ) → file_of (F.held files.old) name ≡ Some file → (fault : BbtFault) × (open_read file ≡ Err fault)) }
     ensures never { result ≢ Status.Exhausted }

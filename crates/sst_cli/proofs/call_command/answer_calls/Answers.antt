@@ -5,6 +5,7 @@ use Rattle.sst_cli.specs.TableBlocks.{blocks_of, row_blocks_of}
 use Rattle.sst_cli.proofs.BlocksOpened.{open_read-fault_of}
 use Rattle.sst_cli.proofs.OneBlock.{table-seqs}
 use Rattle.sst_cli.specs.Replies.{way_text}
+use Rattle.sst_cli.proofs.BlocksOpened.{blocks_read-found}
 use Rattle.sst_cli.proofs.CallsPrinted.{file_text_is, some_answers_text}
 use Rattle.sst_cli.proofs.PrintedTexts.{some_printed, none_printed}
 use Rattle.sst_cli.proofs.call_command.answer_calls.Goals as goal
@@ -46,3 +47,8 @@ pub returns-in-Err-Damage-clause-damaged : goal.returns-in-Err-Damage-clause-dam
 returns-in-Err-Damage-clause-damaged g c = λ ends file held.
     let reads = rw c.in-Err-Damage.field-0-is at c.in-Err-Damage.ensures.told in
     (c.in-Err-Damage.fault, open_read-fault_of file c.in-Err-Damage.fault (reads file held))
+
+pub returns-in-Ok-clause-opened : goal.returns-in-Ok-clause-opened
+returns-in-Ok-clause-opened g c = λ is file held.
+    let found = blocks_read-found file _ (c.in-Ok.ensures.told file held) in
+    (found.0, found.1)

@@ -72,3 +72,13 @@ pub returns-in-Some-calls_name-clause-input_only : goal.returns-in-Some-calls_na
 returns-in-Some-calls_name-clause-input_only g c = λ is text left.
     let found = c.calls.ensures.input is text left in
     inr (c.in-Some-calls_name.name.now, found.0, sym c.in-Some-calls_name.ensures, found.1)
+
+pub returns-in-Some-clause-done_only : goal.returns-in-Some-clause-done_only
+returns-in-Some-clause-done_only g c = λ is name file words held.
+    only_out (map string_bytes c.args.words.now) c.in-Some.name.now name _ c.in-Some.ensures words
+
+pub returns-in-Some-calls_name-clause-done_only : goal.returns-in-Some-calls_name-clause-done_only
+returns-in-Some-calls_name-clause-done_only g c = λ is name file words held.
+    let same = named c.in-Some-calls_name.name.now name _ c.in-Some-calls_name.ensures words in
+    let opened = rw same at c.calls.ensures.opened in
+    opened is file held
