@@ -1,21 +1,15 @@
--- The data blocks of a block-based file, each with its separator: as the file has them, and as a reader keeps them.
+-- The data blocks of a block-based file as a reader keeps them: all entries in one list, and for each block its separator
+-- and where its entries end.
 -- RocksDB: wiki page "Rocksdb BlockBasedTable Format"; table/block_based/block_based_table_reader.cc.
--- For now there is one block at most.
-use Rattle.std.specs.Prelude.{ℕ, ◌<◌, ◌≤◌, List, [], ◌∷◌, length, map}
+use Rattle.std.specs.Prelude.{◌≡◌, ℕ, ◌-◌, ◌<◌, ◌≤◌, false, List, [], ◌∷◌, length, map, take, drop, All}
 use Rattle.sst_key.specs.declared.entries.Entry.{Entry}
-use Rattle.sst_block.specs.Block.{Row}
-use Rattle.sst_cli.specs.BlockBased.{rows_of, Opens}
+use Rattle.sst_key.specs.Entry.{IsOrdered}
+use Rattle.sst_block.specs.declared.row_form.RowForm.TheVariants.{Index}
+use Rattle.sst_block.specs.Block.{Row, AreOrdered}
+use Rattle.sst_bbt_spec.specs.Rows.{HasSeq, rows_of}
+use Rattle.sst_bbt_spec.specs.Way.{IndexedBlock}
 use Rattle.sst_cli.specs.Opening.{RowBlock}
-use Rattle.sst_cli.specs.Way.{IndexedBlock}
-
--- the blocks with these entries to which the index rows lead: the separator of a block is the key of its index row
-abbrev pub blocks_led : List Row → List Entry → List IndexedBlock
-blocks_led [] entries = []
-blocks_led (row ∷ rest) entries = record { separator = row.key; entries = entries } ∷ []
-
--- the blocks of a file that opens
-abbrev pub blocks_in : (file : List ℕ) (entries : List Entry) → Opens file entries → List IndexedBlock
-blocks_in file entries opens = blocks_led opens.index_rows entries
+use Rattle.sst_cli.specs.declared.bbt_reader.BlockEnd.{BlockEnd}
 
 -- blocks of entries as they are read
 abbrev pub row_block_of : IndexedBlock → RowBlock
@@ -24,20 +18,40 @@ row_block_of block = record { separator = block.separator; rows = rows_of block.
 abbrev pub row_blocks_of : List IndexedBlock → List RowBlock
 row_blocks_of blocks = map row_block_of blocks
 
--- what a reader keeps of a table: the separator of its data block, and the entries; with no entry there is no block
+-- what a reader keeps of a table: the blocks, each by its separator and where its entries end; the entries of all
 pub record Table : Type 0 where
-  pub separator : List ℕ
+  pub ends : List BlockEnd
   pub entries : List Entry
 
--- the block with this separator and these entries, if there are any
-abbrev pub block_with : List ℕ → List Entry → List IndexedBlock
-block_with separator [] = []
-block_with separator (e ∷ rest) = record { separator = separator; entries = e ∷ rest } ∷ []
+-- the blocks with these ends, the first of which begins at `start`; `entries` are those of the whole table
+abbrev pub blocks_from : ℕ → List BlockEnd → List Entry → List IndexedBlock
+blocks_from start [] entries = []
+blocks_from start (b ∷ rest) entries =
+    record { separator = b.separator; entries = take (b.end - start) (drop start entries) } ∷ blocks_from b.end rest entries
 
 -- the blocks of a table
 abbrev pub blocks_of : Table → List IndexedBlock
-blocks_of table = block_with table.separator table.entries
+blocks_of table = blocks_from 0 table.ends table.entries
 
--- the separator of a block is a stored key
-abbrev pub HasSeparator : Table → Type 0
-HasSeparator table = 0 < length table.entries → 8 ≤ length table.separator
+-- the blocks of `count` entries: each has one entry at least, the first begins at `start`, and the last ends at the end
+abbrev pub AreEnds : ℕ → List BlockEnd → ℕ → Type 0
+AreEnds start [] count = start ≡ count
+AreEnds start (b ∷ rest) count = (start < b.end) × (b.end ≤ count) × AreEnds b.end rest count
+
+-- the separators as the keys of index rows
+abbrev pub separator_rows : List BlockEnd → List Row
+separator_rows ends = map (λ (b : BlockEnd). record { key = b.separator; value = [] }) ends
+
+-- the entries of a data block: they increase, their sequence numbers are in range, and their user keys aren't longer
+-- than one may be
+pub record AreEntries (entries : List Entry) : Type 0 where
+  pub ordered : IsOrdered entries
+  pub seqs : All HasSeq entries
+  pub users : All (λ (e : Entry). length e.user ≤ 65536) entries
+
+-- what a reader keeps of a table: the separators are stored keys in order, and the entries of each block are in order
+pub record IsTable (table : Table) : Type 0 where
+  pub ends : AreEnds 0 table.ends (length table.entries)
+  pub separators : All (λ (b : BlockEnd). 8 ≤ length b.separator) table.ends
+  pub ordered : AreOrdered (Index false false) (separator_rows table.ends)
+  pub blocks : All (λ (block : IndexedBlock). AreEntries block.entries) (blocks_of table)

@@ -1,24 +1,32 @@
--- The one file that is written for a list with the default options: which choices a writer makes, and which lists
--- it takes. RocksDB: BlockBasedTableBuilder::Add and Finish in
--- table/block_based/block_based_table_builder.cc. The choices are this project's own. For now the entries stand
--- in one data block, and there are no properties.
-use Rattle.std.specs.Prelude.{◌≡◌, ℕ, ◌+◌, ◌^◌, ◌<◌, ◌≤◌, List, [], ◌∷◌, ◌++◌, length, All}
-use Rattle.sst_num.specs.Spelling.{handle_spelling}
+-- The one file that is written for a list with some options: which choices a writer makes, and which lists it takes.
+-- RocksDB: BlockBasedTableBuilder::Add and Finish in table/block_based/block_based_table_builder.cc; PropertyBlockBuilder
+-- and MetaIndexBuilder in table/meta_blocks.cc. The choices are this project's own. For now each separator is the last key
+-- of its block.
+use Rattle.std.specs.Prelude.{◌≡◌, ℕ, ◌+◌, ◌^◌, ◌<◌, ◌≤◌, List, [], ◌∷◌, ◌++◌, length, sum_by, All}
+use Rattle.std.specs.List.{flat_map}
+use Rattle.sst_num.specs.Spelling.{fixed, varint, handle_spelling}
 use Rattle.sst_num.specs.declared.block_handle.Handle.{Handle}
 use Rattle.sst_key.specs.declared.entries.Entry.{Entry}
-use Rattle.sst_key.specs.Entry.{IsOrdered, weight}
+use Rattle.sst_key.specs.Entry.{IsOrdered, weight, key_of}
 use Rattle.sst_block.specs.Block.{Row}
 use Rattle.sst_block.specs.Builder.{last_key}
 use Rattle.sst_block.specs.Chosen.{block_of}
 use Rattle.sst_device.specs.Framed.{frame_of}
-use Rattle.sst_cli.specs.Meta.{footer_of}
-use Rattle.sst_cli.specs.BlockBased.{rows_of, BlockBased}
+use Rattle.sst_meta.specs.BlockFooter.{block_footer}
+use Rattle.sst_meta.specs.Footer.{footer_spelling}
+use Rattle.sst_meta.specs.Names as names
+use Rattle.sst_bbt_spec.specs.Rows.{HasSeq, rows_of}
+use Rattle.sst_bbt_spec.specs.BlockBased.{BlockBased}
+use Rattle.sst_cli.specs.Cut.{data_block, blocks_for}
+use Rattle.sst_meta.specs.PropertyNames.{data_size, filter_size, format_version, index_size, num_data_blocks, num_entries, raw_key_size, raw_value_size}
+use Rattle.sst_meta.specs.declared.name.Name.TheVariants as name
+use Rattle.sst_cli.specs.declared.bbt_options.BbtOptions.{BbtOptions}
 
 -- an entry is within the limits of each entry alone
 pub record IsInLimits (e : Entry) : Type 0 where
   pub key : length e.user ≤ 65536
   pub value : length e.value ≤ 16777216
-  pub seq : e.seq < 2 ^ 56
+  pub seq : HasSeq e
 
 -- a list that is written: it increases, each entry is within its limits, and so is their weight
 pub record Fits (entries : List Entry) : Type 0 where
@@ -26,50 +34,124 @@ pub record Fits (entries : List Entry) : Type 0 where
   pub limits : All IsInLimits entries
   pub light : weight entries ≤ 2 ^ 28
 
--- the data block: a restart at each 16th entry
-abbrev pub data_block : List Entry → List ℕ
-data_block entries = block_of 16 (rows_of entries)
+-- a stored block takes its bytes and a trailer of five
+abbrev pub stored_length : List ℕ → ℕ
+stored_length block = length block + 5
 
--- where the data block stands: at the beginning of the file
-abbrev pub data_handle : List Entry → Handle
-data_handle entries = record { offset = 0; size = length (data_block entries) }
+-- the stored data blocks
+abbrev pub data_part : List (List Entry) → List ℕ
+data_part blocks = flat_map (λ block. frame_of (data_block block)) blocks
 
--- the stored data blocks: none for an empty list
-abbrev pub data_part : List Entry → List ℕ
-data_part [] = []
-data_part (e ∷ rest) = frame_of (data_block (e ∷ rest))
+-- the index row of a data block that stands at this place: its last key leads to it
+abbrev pub index_row : ℕ → List Entry → Row
+index_row at block =
+    record { key = last_key [] (rows_of block); value = handle_spelling (record { offset = at; size = length (data_block block) }) }
 
--- the rows of the index: one for the data block, whose separator is the last key
-abbrev pub index_rows : List Entry → List Row
-index_rows [] = []
-index_rows (e ∷ rest) =
-    record { key = last_key [] (rows_of (e ∷ rest)); value = handle_spelling (data_handle (e ∷ rest)) } ∷ []
+-- the index rows of data blocks, the first of which stands at this place
+abbrev pub index_rows : ℕ → List (List Entry) → List Row
+index_rows at [] = []
+index_rows at (block ∷ rest) = index_row at block ∷ index_rows (at + stored_length (data_block block)) rest
 
 -- the index block: a restart at each row
-abbrev pub index_block : List Entry → List ℕ
-index_block entries = block_of 1 (index_rows entries)
+abbrev pub index_block : List (List Entry) → List ℕ
+index_block blocks = block_of 1 (index_rows 0 blocks)
 
--- where the index block stands: after the data blocks
-abbrev pub index_handle : List Entry → Handle
-index_handle entries = record { offset = length (data_part entries); size = length (index_block entries) }
+-- the bytes of all internal keys, and of all values
+abbrev pub key_bytes : List Entry → ℕ
+key_bytes entries = sum_by (λ e. length (key_of e)) entries
 
--- the metaindex block, which has no row
-abbrev pub metaindex_block : List ℕ
-metaindex_block = block_of 1 []
+abbrev pub value_bytes : List Entry → ℕ
+value_bytes entries = sum_by (λ e. length e.value) entries
 
--- where the metaindex block stands: after the index block and its trailer
-abbrev pub metaindex_handle : List Entry → Handle
-metaindex_handle entries =
-    record { offset = length (data_part entries) + length (index_block entries) + 5; size = length metaindex_block }
+-- a property
+abbrev pub property : List ℕ → List ℕ → Row
+property name value = record { key = name; value = value }
 
--- the bytes of the file: data block, index block, metaindex block, footer
-unfoldable pub table_of : List Entry → List ℕ
-table_of entries =
-    data_part entries
-    ++ (frame_of (index_block entries)
-    ++ (frame_of metaindex_block ++ footer_of (metaindex_handle entries) (index_handle entries)))
+-- the numbers that the properties say
+pub record Sizes : Type 0 where
+  -- of the stored data blocks, and of the stored index block
+  pub data : ℕ
+  pub index : ℕ
+  -- how many data blocks there are, and how many entries
+  pub blocks : ℕ
+  pub entries : ℕ
+  -- of all internal keys, and of all values
+  pub keys : ℕ
+  pub values : ℕ
+
+-- the properties, in bytewise order of their names
+abbrev pub properties : Sizes → List Row
+properties sizes =
+    property (names.name_bytes name.IndexType) (fixed 4 0)
+    ∷ property names.comparator names.bytewise
+    ∷ property data_size (varint sizes.data)
+    ∷ property filter_size (varint 0)
+    ∷ property format_version (varint 2)
+    ∷ property (names.name_bytes name.IndexKeyIsUserKey) (varint 0)
+    ∷ property index_size (varint sizes.index)
+    ∷ property (names.name_bytes name.IndexValueIsDeltaEncoded) (varint 0)
+    ∷ property num_data_blocks (varint sizes.blocks)
+    ∷ property num_entries (varint sizes.entries)
+    ∷ property raw_key_size (varint sizes.keys)
+    ∷ property raw_value_size (varint sizes.values)
+    ∷ []
+
+-- the numbers of a list that was cut into these blocks
+abbrev pub sizes_of : List (List Entry) → List Entry → Sizes
+sizes_of blocks entries =
+    record {
+      data = length (data_part blocks);
+      index = stored_length (index_block blocks);
+      blocks = length blocks;
+      entries = length entries;
+      keys = key_bytes entries;
+      values = value_bytes entries;
+    }
+
+-- the properties block: one restart
+abbrev pub properties_block : Sizes → List ℕ
+properties_block sizes = block_of 65536 (properties sizes)
+
+-- where the properties block stands: behind the stored data blocks and the stored index block
+abbrev pub properties_handle : Sizes → Handle
+properties_handle sizes = record { offset = sizes.data + sizes.index; size = length (properties_block sizes) }
+
+-- the metaindex block: one row, which leads to the properties
+abbrev pub metaindex_block : Sizes → List ℕ
+metaindex_block sizes = block_of 1 (property (names.name_bytes name.Properties) (handle_spelling (properties_handle sizes)) ∷ [])
+
+-- where the metaindex block stands: behind the stored properties block
+abbrev pub metaindex_handle : Sizes → Handle
+metaindex_handle sizes =
+    record {
+      offset = sizes.data + sizes.index + stored_length (properties_block sizes);
+      size = length (metaindex_block sizes);
+    }
+
+-- where the index block stands: behind the stored data blocks
+abbrev pub index_handle : List (List Entry) → Handle
+index_handle blocks = record { offset = length (data_part blocks); size = length (index_block blocks) }
+
+-- the footer, which has version 2
+unfoldable pub footer_of : Handle → Handle → List ℕ
+footer_of metaindex index = footer_spelling (block_footer 2 metaindex index)
+
+-- what stands behind the stored data blocks: index block, properties block, metaindex block, footer
+abbrev pub end_part : List (List Entry) → Sizes → List ℕ
+end_part blocks sizes =
+    frame_of (index_block blocks)
+    ++ (frame_of (properties_block sizes)
+    ++ (frame_of (metaindex_block sizes) ++ footer_of (metaindex_handle sizes) (index_handle blocks)))
+
+-- the bytes of the file of a list that was cut into these blocks
+abbrev pub file_of_blocks : List (List Entry) → List Entry → List ℕ
+file_of_blocks blocks entries = data_part blocks ++ end_part blocks (sizes_of blocks entries)
+
+-- the bytes of the file of a list
+unfoldable pub table_of : BbtOptions → List Entry → List ℕ
+table_of options entries = file_of_blocks (blocks_for options.block_size entries) entries
 
 -- the file is the one that is written for the list, and it stands for it
-pub record Written (file : List ℕ) (entries : List Entry) : Type 0 where
-  pub bytes : file ≡ table_of entries
+pub record Written (options : BbtOptions) (file : List ℕ) (entries : List Entry) : Type 0 where
+  pub bytes : file ≡ table_of options entries
   pub stands : BlockBased file entries

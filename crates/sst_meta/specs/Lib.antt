@@ -3,3 +3,10 @@ pub mod Pairs
 pub mod Footer
 pub mod FooterReading
 pub mod PropsBlock
+pub mod Names
+pub mod PropertyNames
+pub mod Blocks
+pub mod BlockFooter
+pub mod LoadReading
+pub mod Meta
+pub mod MetaFaults

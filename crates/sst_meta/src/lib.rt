@@ -79,16 +79,24 @@ mod footer_laws;
 #[cfg(test)]
 mod footer_tests;
 mod laws;
+mod loading;
+mod loading_laws;
+mod looked_at;
 mod meta_fault;
+mod name;
 pub mod names;
 mod pair;
 mod props;
 #[cfg(test)]
 mod tests;
+mod values;
 
 pub use builder::PropsBuilder;
 pub use footer::{Footer, format_of, put_footer, read_footer};
 pub use footer_laws::a_footer_reads_back;
 pub use laws::{a_name_has_one_value, properties_have_one_restart};
+pub use loading::{Loaded, load};
+pub use loading_laws::{a_file_loads_as_it_says, a_footer_is_read, a_meta_fault_is_shown};
 pub use meta_fault::MetaFault;
+pub use name::Name;
 pub use props::Props;

@@ -19,6 +19,14 @@ pub const COMPARATOR: &[u8] = b"rocksdb.comparator";
 /// The bytes of all data blocks with their trailers, a varint64. RocksDB: `kDataSize`.
 pub const DATA_SIZE: &[u8] = b"rocksdb.data.size";
 
+/// The sequence number of each entry of a file that was made outside a database, a fixed64. RocksDB:
+/// `ExternalSstFilePropertyNames::kGlobalSeqno` in table/sst_file_writer_collectors.h.
+pub const GLOBAL_SEQUENCE: &[u8] = b"rocksdb.external_sst_file.global_seqno";
+
+/// The version of such a file, a fixed32; 2 says that it has a global sequence number. RocksDB:
+/// `ExternalSstFilePropertyNames::kVersion` in table/sst_file_writer_collectors.h.
+pub const EXTERNAL_VERSION: &[u8] = b"rocksdb.external_sst_file.version";
+
 /// The bytes of all filter blocks with their trailers, a varint64. RocksDB: `kFilterSize`.
 pub const FILTER_SIZE: &[u8] = b"rocksdb.filter.size";
 
@@ -48,3 +56,7 @@ pub const RAW_KEY_SIZE: &[u8] = b"rocksdb.raw.key.size";
 
 /// The bytes of all values, a varint64. RocksDB: `kRawValueSize`.
 pub const RAW_VALUE_SIZE: &[u8] = b"rocksdb.raw.value.size";
+
+/// The value of [`COMPARATOR`] where user keys are in bytewise order. RocksDB: `BytewiseComparatorImpl::Name` in
+/// util/comparator.cc.
+pub const BYTEWISE_COMPARATOR: &[u8] = b"leveldb.BytewiseComparator";

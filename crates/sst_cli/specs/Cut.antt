@@ -1,0 +1,61 @@
+-- Where a writer ends the data blocks of a list: a block that has an entry and as many bytes as the option says is ended
+-- before the next entry is added.
+-- RocksDB: FlushBlockBySizePolicy::Update in table/block_based/flush_block_policy.cc; option `block_size` in
+-- include/rocksdb/table.h. RocksDB also looks ahead to the next entry; ending a block by what it has alone is this
+-- project's own.
+use Rattle.std.specs.Prelude.{◌≡◌, ℕ, ◌<◌, ◌≤◌, ◌&&◌, nat_lt, nat_le, Bool, if◌then◌else◌, List, [], ◌∷◌, ◌++◌, length, fold, IsTrue}
+use Rattle.sst_key.specs.declared.entries.Entry.{Entry}
+use Rattle.sst_block.specs.Chosen.{block_of}
+use Rattle.sst_bbt_spec.specs.Rows.{rows_of}
+
+-- a data block: a restart at each 16th entry
+abbrev pub data_block : List Entry → List ℕ
+data_block entries = block_of 16 (rows_of entries)
+
+-- the blocks that were ended, and the entries of the one that wasn't
+pub record Blocks : Type 0 where
+  pub ended : List (List Entry)
+  pub open : List Entry
+
+-- the open block has an entry, and so many bytes or more
+abbrev pub is_full : ℕ → List Entry → Bool
+is_full limit open = nat_lt 0 (length open) && nat_le limit (length (data_block open))
+
+-- one entry more
+abbrev pub add_entry : ℕ → Blocks → Entry → Blocks
+add_entry limit blocks e =
+    if is_full limit blocks.open
+    then record { ended = blocks.ended ++ blocks.open ∷ []; open = e ∷ [] }
+    else record { ended = blocks.ended; open = blocks.open ++ e ∷ [] }
+
+-- a list of entries, one by one
+abbrev pub cut_from : ℕ → Blocks → List Entry → Blocks
+cut_from limit blocks [] = blocks
+cut_from limit blocks (e ∷ rest) = cut_from limit (add_entry limit blocks e) rest
+
+unfoldable pub cut_of : ℕ → List Entry → Blocks
+cut_of limit entries = cut_from limit (record { ended = []; open = [] }) entries
+
+-- the open block is ended with the list, if it has an entry
+abbrev pub ended_all : Blocks → List (List Entry)
+ended_all blocks = blocks.ended ++ (if nat_lt 0 (length blocks.open) then blocks.open ∷ [] else [])
+
+-- the data blocks of a list
+unfoldable pub blocks_for : ℕ → List Entry → List (List Entry)
+blocks_for limit entries = ended_all (cut_of limit entries)
+
+-- all entries of some blocks
+abbrev pub entries_in : List (List Entry) → List Entry
+entries_in [] = []
+entries_in (block ∷ rest) = block ++ entries_in rest
+
+-- no front of the block that is shorter than it is full
+abbrev pub IsLean : ℕ → List Entry → Type 0
+IsLean limit block = (front back : List Entry) → block ≡ front ++ back → 0 < length back → IsTrue (is_full limit front) → ⊥
+
+-- The blocks in their own words: each has an entry, none has an entry more than it takes to be full, and each but the
+-- last is full.
+abbrev pub AreBlocks : ℕ → List (List Entry) → Type 0
+AreBlocks limit [] = Unit {0}
+AreBlocks limit (block ∷ []) = (0 < length block) × IsLean limit block
+AreBlocks limit (block ∷ next ∷ rest) = IsTrue (is_full limit block) × IsLean limit block × AreBlocks limit (next ∷ rest)
