@@ -17,7 +17,7 @@ use Rattle.sst_block.specs.Builder.{Holds, CanAdd, last_key}
 use Rattle.sst_block.specs.Chosen.{block_of}
 use Rattle.sst_block.proofs.Steps.{last_key-more}
 use Rattle.sst_cli.specs.Reasons.{is_after, reason}
-use Rattle.sst_cli.specs.BlockBased.{row_of, rows_of}
+use Rattle.sst_bbt_spec.specs.Rows.{row_of, rows_of}
 use Rattle.sst_cli.specs.Written.{IsInLimits, Fits}
 use Rattle.sst_cli.proofs.Rows.{ComesAfter, length-key_of, rows_of-append, row_of-is_row, rows_of-ordered, rows_of-short, weight-append, Fits-append}
 

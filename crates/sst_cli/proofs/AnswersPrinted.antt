@@ -6,7 +6,7 @@ use Rattle.std.specs.Io.KnownBytes.{append_known}
 use Rattle.sst_key.specs.declared.calls.Call.{Call}
 use Rattle.sst_key.proofs.KeyParts.{take-front}
 use Rattle.sst_cli.specs.Replies.{answer_line, way_from, way_text, Printing}
-use Rattle.sst_cli.specs.Way.{IndexedBlock, joined, way_answer}
+use Rattle.sst_bbt_spec.specs.Way.{IndexedBlock, joined, way_answer}
 
 append_known-nil : (known : Option (List ℕ)) → known ≡ append_known known []
 append_known-nil None = refl

@@ -12,8 +12,8 @@ use Rattle.sst_block.specs.Block.{Row, Block, IsRow, IsInternalKey, AreOrdered}
 use Rattle.sst_block.specs.Iter.{Walks, place_of}
 use Rattle.sst_block.specs.Reading.{Reads}
 use Rattle.sst_block.proofs.RowsCopied.{KeyAt, ValueAt, walks-at, same_row, one_more}
-use Rattle.sst_cli.specs.BlockBased.{row_of, rows_of, HasSeq}
-use Rattle.sst_cli.specs.Reader.{AreEntries}
+use Rattle.sst_bbt_spec.specs.Rows.{row_of, rows_of, HasSeq}
+use Rattle.sst_cli.specs.TableBlocks.{AreEntries}
 use Rattle.sst_cli.proofs.Rows.{rows_of-append, length-key_of}
 
 pub walks-first : (it : BlockIter) (row : Row) (rest : List Row) → Walks it (row ∷ rest) (place_of (row ∷ rest) 0) → Walks it (row ∷ rest) (Some 0)

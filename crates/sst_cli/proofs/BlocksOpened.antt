@@ -6,8 +6,12 @@ use Rattle.sst_num.specs.Reading.{handle_at}
 use Rattle.sst_key.specs.declared.entries.Entry.{Entry}
 use Rattle.sst_block.specs.declared.row_form.RowForm.TheVariants.{Index}
 use Rattle.sst_block.specs.Block.{Row, IsRow}
-use Rattle.sst_cli.specs.BlockBased.{rows_of, Runs, Opens}
-use Rattle.sst_cli.specs.Opening.{RowBlock, then_open, as_fault, block_at, footer_start, meta_read, led_to, runs_read, as_block, blocks_of_runs, rows_joined, index_read, index_blocks_read, open_read, blocks_read}
+use Rattle.sst_bbt_spec.specs.Rows.{rows_of}
+use Rattle.sst_bbt_spec.specs.Runs.{Runs}
+use Rattle.sst_bbt_spec.specs.BlockBased.{Opens}
+use Rattle.sst_cli.specs.Opening.{RowBlock, meta_read, led_to, runs_read, as_block, blocks_of_runs, rows_joined, index_read, index_blocks_read, open_read, blocks_read}
+use Rattle.sst_meta.specs.Blocks.{then_open, as_fault, block_at}
+use Rattle.sst_meta.specs.BlockFooter.{footer_start}
 use Rattle.sst_cli.specs.TableBlocks.{blocks_led, blocks_in, row_blocks_of}
 use Rattle.sst_cli.specs.declared.bbt_fault.BbtFault.{BbtFault}
 use Rattle.sst_cli.specs.declared.bbt_fault.BbtFault.TheVariants as bbt

@@ -9,7 +9,7 @@ use Rattle.sst_block.specs.Reading.{block_read}
 use Rattle.sst_block.proofs.BlockRead.{read-complete, read-sound}
 use Rattle.sst_device.specs.Framed.{Framed}
 use Rattle.sst_device.specs.FrameReading.{frame_read}
-use Rattle.sst_cli.specs.Opening.{as_fault, block_at}
+use Rattle.sst_meta.specs.Blocks.{as_fault, block_at}
 use Rattle.sst_device.specs.declared.frame.FrameFault.{FrameFault}
 use Rattle.sst_device.proofs.FramesRead.{frame_read-framed, framed-read}
 use Rattle.sst_cli.proofs.ReadSteps.{then_open-ok, then_open-err, as_fault-ok, as_fault-err}

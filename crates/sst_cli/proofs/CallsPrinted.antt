@@ -4,15 +4,16 @@ use Rattle.std.proofs.lemmas.List.Elements.{All-nil}
 use Rattle.std.specs.Io.KnownBytes.{append_known}
 use Rattle.sst_key.specs.declared.entries.Entry.{Entry}
 use Rattle.sst_key.specs.declared.calls.Call.{Call}
-use Rattle.sst_cli.specs.BlockBased.{HasSeq, BlockBased}
+use Rattle.sst_bbt_spec.specs.Rows.{HasSeq}
+use Rattle.sst_bbt_spec.specs.BlockBased.{BlockBased}
 use Rattle.hex.specs.Hex.{IsBytes}
-use Rattle.sst_cli.specs.BlockBased.{Opens}
+use Rattle.sst_bbt_spec.specs.BlockBased.{Opens}
 use Rattle.sst_device.specs.Folder.{Files}
 use Rattle.sst_cli.specs.Words.{out_name, calls_name}
 use Rattle.sst_cli.proofs.BlocksOpened.{blocks_read-opens, blocks_read-found, open_read-fault_of}
 use Rattle.sst_cli.proofs.Separated.{opens-seqs, row_blocks-one, stands-text}
 use Rattle.sst_cli.specs.TableBlocks.{blocks_in, row_blocks_of}
-use Rattle.sst_cli.specs.Way.{IndexedBlock}
+use Rattle.sst_bbt_spec.specs.Way.{IndexedBlock}
 use Rattle.sst_cli.proofs.FaultsShown.{open_read-fault}
 use Rattle.sst_cli.proofs.FootersRead.{IsBytes-drop}
 use Rattle.sst_cli.specs.CallsRun.{IsFileText, IsAnswered, Answered, AnsweredByWay, IsDamaged, IsAnswersText, IsInputText, IsCallsText, file_status}

@@ -7,8 +7,14 @@ use Rattle.sst_num.specs.declared.block_handle.Handle.{Handle}
 use Rattle.sst_block.specs.declared.row_form.RowForm.TheVariants.{Entries, Names, Index}
 use Rattle.sst_block.specs.Block.{Row, IsRow}
 use Rattle.sst_meta.specs.FooterReading.{last_bytes}
-use Rattle.sst_cli.specs.Opening.{then_open, end_read, as_fault, block_at, without_names, names_read, footer_start, meta_read, with_rows, data_read, led_to, runs_read, open_read}
-use Rattle.sst_cli.specs.Shows.{FooterLeads, HasIndex, IndexLeads, ShowsMeta, Shows}
+use Rattle.sst_meta.specs.Blocks.{then_open, as_fault, block_at}
+use Rattle.sst_meta.specs.LoadReading.{end_read}
+use Rattle.sst_cli.specs.Opening.{without_names, names_read, meta_read, with_rows, data_read, led_to, runs_read, open_read}
+use Rattle.sst_meta.specs.BlockFooter.{footer_start}
+use Rattle.sst_meta.specs.BlockFooter.{FooterLeads}
+use Rattle.sst_bbt_spec.specs.Reached.{HasIndex, IndexLeads}
+use Rattle.sst_meta.specs.MetaFaults.{ShowsMeta}
+use Rattle.sst_cli.specs.Shows.{Shows}
 use Rattle.sst_cli.specs.declared.bbt_fault.BbtFault.{BbtFault}
 use Rattle.sst_cli.specs.declared.bbt_fault.BbtFault.TheVariants as bbt
 use Rattle.sst_meta.specs.declared.footer.Footer.{Footer}

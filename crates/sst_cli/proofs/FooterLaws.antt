@@ -11,9 +11,10 @@ use Rattle.sst_meta.specs.declared.meta_fault.MetaFault.{MetaFault}
 use Rattle.sst_meta.specs.declared.meta_fault.MetaFault.TheVariants.{NotTable, Version, ChecksumType, BadFooter, NotYet}
 use Rattle.sst_meta.proofs.HandlesRead.{handles_read-spelled, handles_read-found}
 use Rattle.sst_meta.proofs.FooterReads.{fields-taken}
-use Rattle.sst_cli.specs.Meta.{block_footer}
-use Rattle.sst_cli.specs.Opening.{end_read}
-use Rattle.sst_cli.specs.Shows.{EndsIn, IsBuilt, FooterLeads, ShowsMeta}
+use Rattle.sst_meta.specs.BlockFooter.{block_footer}
+use Rattle.sst_meta.specs.LoadReading.{end_read}
+use Rattle.sst_meta.specs.BlockFooter.{EndsIn, IsBuilt, FooterLeads}
+use Rattle.sst_meta.specs.MetaFaults.{ShowsMeta}
 use Rattle.sst_cli.proofs.FootersRead.{fields, legacy, other, none, end_reads, end_read-ends}
 use Rattle.sst_device.proofs.Choices.{by_test}
 

@@ -17,8 +17,8 @@ use Rattle.sst_meta.specs.declared.meta_fault.MetaFault.TheVariants.{NotTable, V
 use Rattle.sst_meta.proofs.FileEnds.{last_bytes-joined, last_bytes-twice, last_bytes-split, number_at_end-fixed, number_at_end-found, fixed_at-bytes, cut_three}
 use Rattle.sst_meta.proofs.FooterKinds.{kind_test, IsKind, known, unknown, kind-is}
 use Rattle.sst_meta.proofs.FooterReads.{later-reads}
-use Rattle.sst_cli.specs.Opening.{by_format, end_read}
-use Rattle.sst_cli.specs.Shows.{EndsWith, IsTable, IsOtherTable, EndsIn}
+use Rattle.sst_meta.specs.LoadReading.{by_format, end_read}
+use Rattle.sst_meta.specs.BlockFooter.{EndsWith, IsTable, IsOtherTable, EndsIn}
 
 pub IsBytes-drop : (n : ℕ) (bytes : List ℕ) → IsBytes bytes → (i : ℕ) → get_or (drop n bytes) i 0 < 256
 IsBytes-drop n bytes are i = rw (get_or-drop n bytes i 0) (are (n + i))

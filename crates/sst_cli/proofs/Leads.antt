@@ -3,12 +3,15 @@ use Rattle.std.proofs.Common.{◌≡◌, ℕ, ◌^◌, ◌<◌, List, [], ◌∷
 use Rattle.sst_num.specs.Spelling.{handle_spelling}
 use Rattle.sst_num.specs.declared.block_handle.Handle.{Handle}
 use Rattle.sst_block.specs.declared.row_form.RowForm.TheVariants.{Names}
-use Rattle.sst_cli.specs.BlockBased.{Opens}
+use Rattle.sst_bbt_spec.specs.BlockBased.{Opens}
 use Rattle.sst_device.specs.Framed.{Framed}
 use Rattle.sst_meta.specs.FooterReading.{last_bytes}
-use Rattle.sst_cli.specs.Meta.{block_footer, footer_front, footer_back, Meta}
-use Rattle.sst_cli.specs.Opening.{footer_start, end_read}
-use Rattle.sst_cli.specs.Shows.{FooterLeads}
+use Rattle.sst_meta.specs.BlockFooter.{block_footer, footer_back}
+use Rattle.sst_cli.specs.Meta.{footer_front}
+use Rattle.sst_meta.specs.Meta.{Meta}
+use Rattle.sst_meta.specs.BlockFooter.{footer_start}
+use Rattle.sst_meta.specs.LoadReading.{end_read}
+use Rattle.sst_meta.specs.BlockFooter.{FooterLeads}
 use Rattle.sst_key.specs.declared.entries.Entry.{Entry}
 use Rattle.sst_cli.proofs.BlocksRead.{RowsAt}
 use Rattle.sst_cli.proofs.FooterLaws.{footer_read-leads}

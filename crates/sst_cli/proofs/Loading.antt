@@ -4,7 +4,9 @@ use Rattle.std.proofs.lemmas.Bool.{lt-ltb}
 use Rattle.sst_num.specs.declared.stops.Stop.{Stop}
 use Rattle.sst_num.specs.declared.stops.Stop.TheVariants.{Damage, Device, Memory}
 use Rattle.sst_meta.specs.FooterReading.{last_bytes}
-use Rattle.sst_cli.specs.Opening.{end_read, names_read, meta_read, footer_start}
+use Rattle.sst_meta.specs.LoadReading.{end_read}
+use Rattle.sst_cli.specs.Opening.{names_read, meta_read}
+use Rattle.sst_meta.specs.BlockFooter.{footer_start}
 use Rattle.sst_device.specs.Stops.{Answers}
 use Rattle.sst_cli.specs.Reader.{Loads}
 use Rattle.sst_meta.specs.declared.footer.Footer.{Footer}

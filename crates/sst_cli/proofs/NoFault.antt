@@ -10,11 +10,16 @@ use Rattle.sst_block.specs.Block.{Row}
 use Rattle.sst_block.specs.Builder.{HasNoFlags}
 use Rattle.sst_block.specs.Reading.{block_read}
 use Rattle.sst_block.proofs.OneReading.{no-rows}
-use Rattle.sst_cli.specs.BlockBased.{rows_of, Runs, Opens}
+use Rattle.sst_bbt_spec.specs.Rows.{rows_of}
+use Rattle.sst_bbt_spec.specs.Runs.{Runs}
+use Rattle.sst_bbt_spec.specs.BlockBased.{Opens}
 use Rattle.sst_meta.specs.Footer.{legacy_block_based_magic, plain_magic, legacy_plain_magic, cuckoo_magic}
 use Rattle.sst_meta.specs.FooterReading.{last_bytes}
 use Rattle.sst_cli.specs.Opening.{open_read}
-use Rattle.sst_cli.specs.Shows.{FooterLeads, IsReached, ShowsFrame, ShowsBlock, IsOtherTable, IsNotYet, ShowsMeta, Shows}
+use Rattle.sst_meta.specs.BlockFooter.{FooterLeads, IsOtherTable}
+use Rattle.sst_bbt_spec.specs.Reached.{IsReached}
+use Rattle.sst_cli.specs.Shows.{ShowsFrame, ShowsBlock, Shows}
+use Rattle.sst_meta.specs.MetaFaults.{IsNotYet, ShowsMeta}
 use Rattle.sst_device.specs.declared.frame.FrameFault.{FrameFault}
 use Rattle.sst_cli.specs.declared.bbt_fault.BbtFault.{BbtFault}
 use Rattle.sst_cli.specs.declared.bbt_fault.BbtFault.TheVariants as bbt

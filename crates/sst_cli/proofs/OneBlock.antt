@@ -2,10 +2,10 @@
 use Rattle.std.proofs.Common.{◌≡◌, ℕ, List, [], ◌∷◌, All, refl, sym, subst}
 use Rattle.std.proofs.lemmas.List.{append-nil}
 use Rattle.sst_key.specs.declared.entries.Entry.{Entry}
-use Rattle.sst_cli.specs.BlockBased.{HasSeq}
-use Rattle.sst_cli.specs.Reader.{IsTable}
+use Rattle.sst_bbt_spec.specs.Rows.{HasSeq}
+use Rattle.sst_cli.specs.TableBlocks.{IsTable}
 use Rattle.sst_cli.specs.TableBlocks.{Table, block_with, blocks_of}
-use Rattle.sst_cli.specs.Way.{joined}
+use Rattle.sst_bbt_spec.specs.Way.{joined}
 
 with-joined : (separator : List ℕ) (entries : List Entry) → joined (block_with separator entries) ≡ entries
 with-joined separator [] = refl

@@ -4,8 +4,10 @@ use Rattle.std.proofs.lemmas.List.Elements.{All-nil}
 use Rattle.sst_key.specs.declared.entries.Entry.{Entry}
 use Rattle.sst_key.specs.Entry.{IsOrdered}
 use Rattle.sst_block.specs.Block.{Row}
-use Rattle.sst_cli.specs.BlockBased.{HasSeq, rows_of, Runs, Opens, BlockBased}
-use Rattle.sst_cli.proofs.EntriesOfRows.{rows_of-one, entries-ordered}
+use Rattle.sst_bbt_spec.specs.Rows.{HasSeq, rows_of}
+use Rattle.sst_bbt_spec.specs.Runs.{Runs}
+use Rattle.sst_bbt_spec.specs.BlockBased.{Opens, BlockBased}
+use Rattle.sst_bbt_spec.proofs.EntriesOfRows.{rows_of-one, entries-ordered}
 use Rattle.sst_cli.proofs.BlocksOpened.{open_read-opens}
 
 -- the entries that an index leads to

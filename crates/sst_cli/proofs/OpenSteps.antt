@@ -16,7 +16,8 @@ use Rattle.sst_block.specs.Block.{Row, Spelled, IsRow}
 use Rattle.sst_block.specs.Reading.{Reads, Gives, block_read}
 use Rattle.sst_cli.specs.Opening.{RowBlock, index_blocks_read, blocks_read}
 use Rattle.sst_device.specs.Stops.{stop_as}
-use Rattle.sst_cli.specs.Reader.{Loads, Opened, rows_checked, place_led}
+use Rattle.sst_cli.specs.Reader.{Loads, Opened, place_led}
+use Rattle.sst_meta.specs.Blocks.{rows_checked}
 use Rattle.sst_meta.specs.declared.meta_fault.MetaFault.{MetaFault}
 use Rattle.sst_meta.specs.declared.meta_fault.MetaFault.TheVariants as meta
 use Rattle.sst_cli.specs.declared.load.Loaded.{Loaded}

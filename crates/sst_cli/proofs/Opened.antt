@@ -9,10 +9,13 @@ use Rattle.sst_num.proofs.Reading.{handle_at-handle}
 use Rattle.sst_key.specs.declared.entries.Entry.{Entry}
 use Rattle.sst_block.specs.declared.row_form.RowForm.TheVariants.{Entries, Names}
 use Rattle.sst_block.specs.Block.{Row}
-use Rattle.sst_cli.specs.BlockBased.{rows_of, LeadsTo}
-use Rattle.sst_cli.specs.Opening.{then_open, without_names, names_read, footer_start, meta_read, with_rows, led_to}
+use Rattle.sst_bbt_spec.specs.Rows.{rows_of}
+use Rattle.sst_bbt_spec.specs.Runs.{LeadsTo}
+use Rattle.sst_meta.specs.Blocks.{then_open}
+use Rattle.sst_cli.specs.Opening.{without_names, names_read, meta_read, with_rows, led_to}
+use Rattle.sst_meta.specs.BlockFooter.{footer_start}
 use Rattle.sst_cli.specs.declared.bbt_fault.BbtFault.TheVariants as bbt
-use Rattle.sst_cli.specs.Meta.{block_footer}
+use Rattle.sst_meta.specs.BlockFooter.{block_footer}
 use Rattle.sst_meta.specs.declared.footer.Footer.{Footer}
 use Rattle.sst_meta.specs.declared.meta_fault.MetaFault.TheVariants as meta
 use Rattle.sst_cli.proofs.BlocksRead.{RowsAt, block_at-rows}

@@ -8,14 +8,19 @@ use Rattle.sst_num.specs.declared.block_handle.Handle.{Handle}
 use Rattle.sst_key.specs.declared.entries.Entry.{Entry}
 use Rattle.sst_block.specs.declared.row_form.RowForm.TheVariants.{Entries, Names, Index}
 use Rattle.sst_block.specs.Block.{Row, Block, IsHandle}
-use Rattle.sst_cli.specs.BlockBased.{row_of, rows_of, LeadsTo, Runs, Opens}
+use Rattle.sst_bbt_spec.specs.Rows.{row_of, rows_of}
+use Rattle.sst_bbt_spec.specs.Runs.{LeadsTo, Runs}
+use Rattle.sst_bbt_spec.specs.BlockBased.{Opens}
 use Rattle.sst_meta.specs.FooterReading.{last_bytes}
-use Rattle.sst_cli.specs.Opening.{then_open, end_read, block_at, without_names, names_read, footer_start, meta_read, with_rows, data_read, led_to}
+use Rattle.sst_meta.specs.Blocks.{then_open, block_at}
+use Rattle.sst_meta.specs.LoadReading.{end_read}
+use Rattle.sst_cli.specs.Opening.{without_names, names_read, meta_read, with_rows, data_read, led_to}
+use Rattle.sst_meta.specs.BlockFooter.{footer_start}
 use Rattle.sst_cli.specs.declared.bbt_fault.BbtFault.TheVariants as bbt
 use Rattle.sst_meta.specs.declared.footer.Footer.{Footer}
 use Rattle.sst_meta.specs.declared.meta_fault.MetaFault.TheVariants as meta
 use Rattle.sst_cli.proofs.BlocksRead.{RowsAt, block_at-found}
-use Rattle.sst_cli.proofs.EntriesOfRows.{EntriesOf, entries-of_rows}
+use Rattle.sst_bbt_spec.proofs.EntriesOfRows.{EntriesOf, entries-of_rows}
 use Rattle.sst_cli.proofs.FooterLaws.{leads-read}
 use Rattle.sst_cli.proofs.Leads.{Leads, leads-meta}
 use Rattle.sst_cli.proofs.Opened.{handle_at-alone}

@@ -9,15 +9,18 @@ use Rattle.sst_block.specs.declared.row_form.RowForm.{RowForm}
 use Rattle.sst_block.specs.declared.row_form.RowForm.TheVariants.{Entries, Names, Index}
 use Rattle.sst_block.specs.Block.{Row, Block}
 use Rattle.sst_block.proofs.OneReading.{one-list}
-use Rattle.sst_cli.specs.BlockBased.{rows_of, Runs, Opens}
+use Rattle.sst_bbt_spec.specs.Rows.{rows_of}
+use Rattle.sst_bbt_spec.specs.Runs.{Runs}
+use Rattle.sst_bbt_spec.specs.BlockBased.{Opens}
 use Rattle.sst_device.specs.Framed.{Framed}
 use Rattle.sst_meta.specs.Footer.{block_based_magic, AreHandles}
-use Rattle.sst_cli.specs.Opening.{footer_start}
-use Rattle.sst_cli.specs.Shows.{EndsWith, EndsIn, IsBuilt, FooterLeads, HasIndex, IndexLeads}
+use Rattle.sst_meta.specs.BlockFooter.{footer_start}
+use Rattle.sst_meta.specs.BlockFooter.{EndsWith, EndsIn, IsBuilt, FooterLeads}
+use Rattle.sst_bbt_spec.specs.Reached.{HasIndex, IndexLeads}
 use Rattle.sst_meta.specs.declared.footer.Footer.{Footer}
 use Rattle.sst_cli.proofs.BlocksRead.{RowsAt}
 use Rattle.sst_cli.proofs.FootersRead.{number-of_end, end_read-ends}
-use Rattle.sst_cli.specs.Meta.{block_footer}
+use Rattle.sst_meta.specs.BlockFooter.{block_footer}
 use Rattle.sst_cli.proofs.FooterLaws.{by_version-cases, fields-handles, footer_read-leads}
 use Rattle.sst_device.proofs.FramesRead.{frame_read-framed}
 use Rattle.sst_cli.proofs.HandlesOnce.{handle-once}

@@ -1,6 +1,6 @@
 -- What the steps of a reading tell: of a test, of a step after another, and of a fault under another name.
 use Rattle.std.proofs.Common.{◌≡◌, Result, Ok, Err, refl}
-use Rattle.sst_cli.specs.Opening.{then_open, as_fault}
+use Rattle.sst_meta.specs.Blocks.{then_open, as_fault}
 
 -- a step that gives something came after one that did
 pub then_open-ok : {A B F P : Type 0} (r : Result A F) (next : A → Result B F) (y : B) → then_open r next ≡ Ok y

@@ -16,9 +16,9 @@ use Rattle.sst_block.specs.Builder.{last_key, row_room}
 use Rattle.sst_block.specs.Chosen.{block_of}
 use Rattle.sst_block.proofs.Size.{block_of-le}
 use Rattle.sst_block.proofs.Steps.{last_key-more, ordered-more, ordered-last}
-use Rattle.sst_cli.specs.BlockBased.{HasSeq, row_of, rows_of}
+use Rattle.sst_bbt_spec.specs.Rows.{HasSeq, row_of, rows_of}
 use Rattle.sst_cli.specs.Written.{IsInLimits, Fits}
-use Rattle.sst_cli.proofs.EntriesOfRows.{entries-ordered}
+use Rattle.sst_bbt_spec.proofs.EntriesOfRows.{entries-ordered}
 
 pub rows_of-append : (entries : List Entry) (e : Entry) → rows_of (entries ++ e ∷ []) ≡ rows_of entries ++ row_of e ∷ []
 rows_of-append entries e = map-append row_of entries (e ∷ [])

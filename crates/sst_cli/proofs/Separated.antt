@@ -15,13 +15,15 @@ use Rattle.sst_key.proofs.KeyParts.{user_of-key, tag_of-key, tag-fits}
 use Rattle.sst_key.proofs.TargetOrder.{up_to-from_words}
 use Rattle.sst_block.specs.Block.{Row}
 use Rattle.sst_block.specs.Builder.{last_key}
-use Rattle.sst_cli.specs.BlockBased.{HasSeq, rows_of, AreSeparated, BlockBased, Opens, Runs}
+use Rattle.sst_bbt_spec.specs.Rows.{HasSeq, rows_of}
+use Rattle.sst_bbt_spec.specs.Runs.{AreSeparated, Runs}
+use Rattle.sst_bbt_spec.specs.BlockBased.{BlockBased, Opens}
 use Rattle.sst_cli.specs.TableBlocks.{blocks_led, blocks_in, row_block_of, row_blocks_of}
-use Rattle.sst_cli.specs.Way.{IndexedBlock, IsUpToSeparator, IsAfterSeparator, Separate, joined, way_replies}
+use Rattle.sst_bbt_spec.specs.Way.{IndexedBlock, IsUpToSeparator, IsAfterSeparator, Separate, joined, way_replies}
 use Rattle.sst_cli.proofs.OneList.{opens-ordered}
-use Rattle.sst_cli.proofs.SeparatorOrder.{Before, UpTo, ahead, tagged, upto-words}
-use Rattle.sst_cli.proofs.WayLaws.{All-front, All-back, replies-same}
-use Rattle.sst_cli.proofs.EntriesOfRows.{rows_of-one}
+use Rattle.sst_bbt_spec.proofs.SeparatorOrder.{Before, UpTo, ahead, tagged, upto-words}
+use Rattle.sst_bbt_spec.proofs.WayLaws.{All-front, All-back, replies-same}
+use Rattle.sst_bbt_spec.proofs.EntriesOfRows.{rows_of-one}
 use Rattle.sst_cli.specs.Opening.{RowBlock}
 use Rattle.sst_cli.specs.Replies.{lines_of, answers_from, answers_text, way_from, way_text}
 

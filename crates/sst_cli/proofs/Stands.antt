@@ -16,9 +16,15 @@ use Rattle.sst_block.specs.Builder.{last_key, row_room}
 use Rattle.sst_block.proofs.BlockLaws.{block_of_is_block}
 use Rattle.sst_block.proofs.Size.{block_of-le}
 use Rattle.sst_device.specs.Framed.{Framed, frame_of, trailer_of}
-use Rattle.sst_cli.specs.Meta.{Meta, footer_front, footer_back, footer_of}
-use Rattle.sst_cli.specs.BlockBased.{rows_of, HasSeq, Runs, AreSeparated, BlockBased}
-use Rattle.sst_cli.specs.Written.{Fits, IsInLimits, data_block, data_handle, data_part, index_rows, index_block, index_handle, metaindex_block, metaindex_handle, table_of, Written}
+use Rattle.sst_meta.specs.Meta.{Meta}
+use Rattle.sst_cli.specs.Meta.{footer_front}
+use Rattle.sst_meta.specs.BlockFooter.{footer_back}
+use Rattle.sst_cli.specs.Written.{footer_of}
+use Rattle.sst_bbt_spec.specs.Rows.{rows_of, HasSeq}
+use Rattle.sst_bbt_spec.specs.Runs.{Runs, AreSeparated}
+use Rattle.sst_bbt_spec.specs.BlockBased.{BlockBased}
+use Rattle.sst_cli.specs.Written.{Fits, IsInLimits, data_handle, data_part, index_rows, index_block, index_handle, metaindex_block, metaindex_handle, table_of, Written}
+use Rattle.sst_cli.specs.Cut.{data_block}
 use Rattle.sst_meta.specs.Footer.{two_handles, footer_spelling}
 use Rattle.sst_meta.proofs.Footers.{length-handle, length-two_handles}
 use Rattle.sst_device.proofs.Frames.{frame-framed}

@@ -12,9 +12,9 @@ use Rattle.sst_block.specs.Chosen.{block_of}
 use Rattle.sst_block.proofs.Size.{can_add}
 use Rattle.sst_key.specs.declared.entries.Entry.{Entry}
 use Rattle.sst_cli.specs.After.{data_of}
-use Rattle.sst_cli.specs.BlockBased.{rows_of}
+use Rattle.sst_bbt_spec.specs.Rows.{rows_of}
 use Rattle.sst_device.specs.Framed.{frame_of}
-use Rattle.sst_cli.specs.Meta.{footer_of}
+use Rattle.sst_cli.specs.Written.{footer_of}
 use Rattle.sst_cli.specs.TableParts.{index_rows_by}
 use Rattle.sst_cli.specs.Written.{Fits, data_part, index_rows, index_block, index_handle, metaindex_block, metaindex_handle, table_of}
 use Rattle.sst_meta.proofs.Footers.{length-handle}

@@ -5,7 +5,7 @@ use Rattle.sst_key.specs.declared.entries.Entry.{Entry}
 use Rattle.sst_key.specs.Entry.{weight}
 use Rattle.sst_block.specs.declared.row_form.RowForm.TheVariants.{Entries}
 use Rattle.sst_block.specs.Builder as builder
-use Rattle.sst_cli.specs.BlockBased.{rows_of}
+use Rattle.sst_bbt_spec.specs.Rows.{rows_of}
 use Rattle.sst_cli.specs.Written.{Fits, data_handle}
 use Rattle.sst_cli.specs.declared.bbt_writer.BbtWriter.{BbtWriter}
 

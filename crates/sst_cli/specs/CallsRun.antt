@@ -3,7 +3,7 @@ use Rattle.std.specs.Prelude.{◌≡◌, ◌⊎◌, ℕ, List, [], Option, Some,
 use Rattle.std.specs.Io.KnownBytes.{append_known}
 use Rattle.sst_key.specs.declared.entries.Entry.{Entry}
 use Rattle.sst_key.specs.declared.calls.Call.{Call}
-use Rattle.sst_cli.specs.BlockBased.{HasSeq}
+use Rattle.sst_bbt_spec.specs.Rows.{HasSeq}
 use Rattle.sst_device.specs.Folder.{Files, file_of, misses}
 use Rattle.sst_cli.specs.FaultText.{fault_text}
 use Rattle.sst_cli.specs.Opening.{RowBlock, open_read, blocks_read}
@@ -13,7 +13,7 @@ use Rattle.sst_cli.specs.Replies.{answers_text, way_text}
 use Rattle.sst_cli.specs.Run.{IsWriteText, usage_text}
 use Rattle.sst_cli.specs.Shows.{Shows}
 use Rattle.sst_cli.specs.TableBlocks.{row_blocks_of}
-use Rattle.sst_cli.specs.Way.{IndexedBlock, joined}
+use Rattle.sst_bbt_spec.specs.Way.{IndexedBlock, joined}
 use Rattle.sst_cli.specs.Words.{out_name, calls_name}
 use Rattle.sst_cli.specs.declared.bbt_fault.BbtFault.{BbtFault}
 use Rattle.sst_cli.specs.declared.refusal.Refusal.{Refusal}

@@ -7,7 +7,7 @@ use Rattle.sst_key.specs.declared.faults.WriteFault.TheVariants.{NotIncreasing, 
 use Rattle.sst_key.specs.Entry.{key_of, weight, entry_weight}
 use Rattle.sst_key.specs.InternalKey.{internal_cmp}
 use Rattle.sst_block.specs.Builder as builder
-use Rattle.sst_cli.specs.BlockBased.{rows_of}
+use Rattle.sst_bbt_spec.specs.Rows.{rows_of}
 
 -- the entry is after those of the list
 abbrev pub is_after : List Entry → Entry → Bool

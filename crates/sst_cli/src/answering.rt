@@ -6,7 +6,7 @@ ghost use Rattle.sst_device.specs.Faults.{Rose};
 ghost use Rattle.sst_cli.specs.Replies.{answer_line, way_text};
 ghost use Rattle.sst_cli.specs.Cursors.{Belongs, Comes, entry_shown, lent};
 ghost use Rattle.sst_cli.specs.TableBlocks.{blocks_of};
-ghost use Rattle.sst_cli.specs.Way.{joined, way_answer, way_get};
+ghost use Rattle.sst_bbt_spec.specs.Way.{joined, way_answer, way_get};
 
 use crate::bbt_reader::{BbtReader, Cursor};
 use crate::reply_line::put_reply_line;

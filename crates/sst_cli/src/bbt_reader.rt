@@ -3,9 +3,11 @@ ghost use Rattle.std.specs.Prelude.{◌≡◌, ◌≢◌, ℕ, ◌^◌, ◌≤�
 ghost use Rattle.sst_block.specs.declared.row_form.RowForm.TheVariants.{Entries, Index};
 ghost use Rattle.sst_device.specs.Folder.{file_of, misses};
 ghost use Rattle.sst_device.specs.Faults.{Rose};
-ghost use Rattle.sst_cli.specs.Opening.{as_block, then_open, with_rows, data_read, index_blocks_read, blocks_read};
+ghost use Rattle.sst_cli.specs.Opening.{as_block, with_rows, data_read, index_blocks_read, blocks_read};
+ghost use Rattle.sst_meta.specs.Blocks.{then_open};
 ghost use Rattle.sst_device.specs.Stops.{Answers, stop_as};
-ghost use Rattle.sst_cli.specs.Reader.{IsSeparated, Opened, rows_checked, place_of, place_read};
+ghost use Rattle.sst_cli.specs.Reader.{IsSeparated, Opened, place_of, place_read};
+ghost use Rattle.sst_meta.specs.Blocks.{rows_checked};
 ghost use Rattle.sst_cli.specs.declared.bbt_fault.BbtFault.TheVariants as bbt;
 
 mod calls;
@@ -42,7 +44,7 @@ pub struct BbtReader {
 }
 
 impl Model for BbtReader {
-    ghost use Rattle.sst_cli.specs.Reader.{IsTable};
+    ghost use Rattle.sst_cli.specs.TableBlocks.{IsTable};
     ghost use Rattle.sst_cli.specs.TableBlocks.{Table};
 
     ghost Value = { Table };

@@ -10,7 +10,7 @@ ghost use Rattle.sst_key.specs.declared.entries.Entry.{Entry};
 ghost use Rattle.sst_block.specs.Builder.{last_key};
 ghost use Rattle.sst_cli.specs.After.{After, HasFailed, IsInUse};
 ghost use Rattle.sst_cli.specs.Reasons.{reason, is_after};
-ghost use Rattle.sst_cli.specs.BlockBased.{rows_of};
+ghost use Rattle.sst_bbt_spec.specs.Rows.{rows_of};
 ghost use Rattle.sst_cli.specs.Written.{Fits, Written};
 
 use crate::table_parts::{index_block, metaindex_block, put_block, put_data, put_footer};

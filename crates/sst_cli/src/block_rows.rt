@@ -5,8 +5,8 @@ ghost use Rattle.sst_block.specs.Block.{Row, IsInternalKey};
 ghost use Rattle.sst_block.specs.Builder.{HasNoFlags};
 ghost use Rattle.sst_block.specs.Reading.{Gives, Reads, block_read};
 ghost use Rattle.sst_block.specs.declared.row_form.RowForm.TheVariants.{Entries, Index};
-ghost use Rattle.sst_cli.specs.BlockBased.{rows_of, row_of, HasSeq};
-ghost use Rattle.sst_cli.specs.Reader.{AreEntries};
+ghost use Rattle.sst_bbt_spec.specs.Rows.{rows_of, row_of, HasSeq};
+ghost use Rattle.sst_cli.specs.TableBlocks.{AreEntries};
 
 use sst_block::{BlockFault, BlockIter, RowForm, check_block};
 use sst_key::{Entry, KeyRoom, unpack};

@@ -3,7 +3,7 @@ ghost use Rattle.std.specs.Prelude.{◌≡◌, ◌≢◌, ◌⊎◌, ℕ, ◌≤
 ghost use Rattle.std.specs.Io.KnownBytes.{append_known};
 ghost use Rattle.sst_key.specs.declared.calls.Call.{Call};
 ghost use Rattle.sst_key.specs.declared.entries.Entry.{Entry};
-ghost use Rattle.sst_cli.specs.BlockBased.{Opens};
+ghost use Rattle.sst_bbt_spec.specs.BlockBased.{Opens};
 ghost use Rattle.sst_cli.specs.CallsRun.{IsAnswered, IsAnswersText, IsCallsText, IsLacking};
 ghost use Rattle.sst_cli.specs.FaultText.{fault_text};
 ghost use Rattle.sst_device.specs.Faults.{Rose};

@@ -5,9 +5,12 @@ ghost use Rattle.sst_device.specs.Folder.{file_of, misses};
 ghost use Rattle.sst_device.specs.Faults.{Rose};
 ghost use Rattle.sst_meta.specs.FooterReading.{last_bytes};
 ghost use Rattle.sst_cli.specs.Opening as opening;
-ghost use Rattle.sst_cli.specs.Opening.{then_open, end_read, names_read};
+ghost use Rattle.sst_meta.specs.Blocks.{then_open};
+ghost use Rattle.sst_meta.specs.LoadReading.{end_read};
+ghost use Rattle.sst_cli.specs.Opening.{names_read};
 ghost use Rattle.sst_device.specs.Stops.{Answers, stop_as};
-ghost use Rattle.sst_cli.specs.Reader.{Loads, rows_checked};
+ghost use Rattle.sst_cli.specs.Reader.{Loads};
+ghost use Rattle.sst_meta.specs.Blocks.{rows_checked};
 ghost use Rattle.sst_meta.specs.declared.meta_fault.MetaFault.TheVariants as meta;
 
 use sst_block::{RowForm, check_block};

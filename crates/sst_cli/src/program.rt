@@ -5,7 +5,7 @@ ghost use Rattle.std.specs.Io.KnownBytes.{append_known};
 ghost use Rattle.hex.specs.Hex.{IsBytes};
 ghost use Rattle.sst_key.specs.declared.calls.Call.{Call};
 ghost use Rattle.sst_key.specs.declared.entries.Entry.{Entry};
-ghost use Rattle.sst_cli.specs.BlockBased.{Opens, BlockBased};
+ghost use Rattle.sst_bbt_spec.specs.BlockBased.{Opens, BlockBased};
 ghost use Rattle.sst_cli.specs.CallText.{calls_text, AreInLimits, AreOfBytes};
 ghost use Rattle.sst_cli.specs.CallsRun.{Answered, AnsweredByWay, IsDamaged, IsLacking, IsRefusedInput, IsTextFor};
 ghost use Rattle.sst_cli.specs.EntryText.{lines_text, AreBytes};

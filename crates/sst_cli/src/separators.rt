@@ -1,7 +1,7 @@
 //! How the separator of a data block stands to a target.
 ghost use Rattle.std.specs.Prelude.{◌≡◌, ◌≤◌, length};
 ghost use Rattle.sst_key.specs.InternalKey.{user_of, tag_of};
-ghost use Rattle.sst_cli.specs.Way.{is_separator_before, seek_tag, seek_for_prev_tag};
+ghost use Rattle.sst_bbt_spec.specs.Way.{is_separator_before, seek_tag, seek_for_prev_tag};
 
 use sst_num::fixed64;
 use std::cmp::Ordering;

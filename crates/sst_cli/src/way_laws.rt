@@ -4,10 +4,12 @@ ghost use Rattle.sst_key.specs.declared.entries.Entry.{Entry};
 ghost use Rattle.sst_key.specs.declared.calls.Call.{Call};
 ghost use Rattle.sst_key.specs.declared.calls.Format.TheVariants.{Block};
 ghost use Rattle.sst_key.specs.ListMachine.{answer_of, replies};
-ghost use Rattle.sst_cli.specs.BlockBased.{BlockBased, HasSeq, Opens};
-ghost use Rattle.sst_cli.specs.Opening.{RowBlock, blocks_read, open_read, rows_joined, then_open};
+ghost use Rattle.sst_bbt_spec.specs.BlockBased.{BlockBased, Opens};
+ghost use Rattle.sst_bbt_spec.specs.Rows.{HasSeq};
+ghost use Rattle.sst_cli.specs.Opening.{RowBlock, blocks_read, open_read, rows_joined};
+ghost use Rattle.sst_meta.specs.Blocks.{then_open};
 ghost use Rattle.sst_cli.specs.TableBlocks.{blocks_in, row_blocks_of};
-ghost use Rattle.sst_cli.specs.Way.{IndexedBlock, Separate, joined, way_answer, way_replies};
+ghost use Rattle.sst_bbt_spec.specs.Way.{IndexedBlock, Separate, joined, way_answer, way_replies};
 
 /// Where the separators separate the blocks of a table, each call is answered as the list of its entries answers.
 ///

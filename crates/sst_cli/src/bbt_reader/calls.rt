@@ -5,7 +5,7 @@ ghost use Rattle.sst_key.specs.Entry.{entry_of};
 ghost use Rattle.sst_key.specs.ListMachine as machine;
 ghost use Rattle.sst_cli.specs.Cursors.{Belongs, Comes, lent};
 ghost use Rattle.sst_cli.specs.TableBlocks.{blocks_of};
-ghost use Rattle.sst_cli.specs.Way.{is_separator_before, seek_tag, seek_for_prev_tag, way_seek, way_get, way_seek_for_prev};
+ghost use Rattle.sst_bbt_spec.specs.Way.{is_separator_before, seek_tag, seek_for_prev_tag, way_seek, way_get, way_seek_for_prev};
 
 use crate::bbt_reader::BbtReader;
 use crate::list_search::{below, up_to};

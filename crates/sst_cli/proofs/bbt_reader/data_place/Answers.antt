@@ -2,7 +2,7 @@ use Rattle.std.proofs.Common.{false, ◌∷◌, [], ◌∙◌, sym, ap, Result, 
 use Rattle.sst_block.specs.declared.row_form.RowForm.TheVariants.{Index}
 use Rattle.sst_block.specs.Block.{Row}
 use Rattle.sst_num.specs.Reading.{handle_at}
-use Rattle.sst_cli.specs.Opening.{then_open}
+use Rattle.sst_meta.specs.Blocks.{then_open}
 use Rattle.sst_cli.specs.Reader.{place_of}
 use Rattle.sst_cli.specs.declared.bbt_fault.BbtFault.{BbtFault}
 use Rattle.sst_cli.specs.declared.bbt_fault.BbtFault.TheVariants as bbt

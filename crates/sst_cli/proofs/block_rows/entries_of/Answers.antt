@@ -4,7 +4,7 @@ use Rattle.sst_block.proofs.BlockRead.{read-sound}
 use Rattle.sst_block.proofs.RowsCopied.{walks-at}
 use Rattle.sst_block.specs.declared.row_form.RowForm.TheVariants.{Entries}
 use Rattle.sst_key.specs.declared.entries.Entry.{Entry}
-use Rattle.sst_cli.specs.BlockBased.{rows_of, HasSeq}
+use Rattle.sst_bbt_spec.specs.Rows.{rows_of, HasSeq}
 use Rattle.sst_cli.proofs.BlockRows.{internal_at, copied_more, copied_all, entries_are}
 use Rattle.sst_cli.proofs.block_rows.entries_of.Goals as goal
 

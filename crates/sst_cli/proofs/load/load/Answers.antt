@@ -1,7 +1,8 @@
 use Rattle.std.proofs.Common.{arith, ◌≡◌, ◌∙◌, length, Ok, Some, Option, ap}
 use Rattle.sst_device.specs.Folder.{Files, file_of}
 use Rattle.sst_meta.specs.FooterReading.{last_bytes}
-use Rattle.sst_cli.specs.Opening.{end_read, footer_start}
+use Rattle.sst_meta.specs.LoadReading.{end_read}
+use Rattle.sst_meta.specs.BlockFooter.{footer_start}
 use Rattle.sst_cli.proofs.Loading.{names_stop}
 use Rattle.sst_cli.proofs.load.load.Goals as goal
 

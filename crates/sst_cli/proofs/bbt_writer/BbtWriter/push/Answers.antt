@@ -2,7 +2,7 @@ use Rattle.std.proofs.Common.{◌∙◌, ap, refl, sym, [], ◌∷◌, length-ap
 use Rattle.sst_key.specs.declared.entries.Entry.{Entry}
 use Rattle.sst_key.specs.Entry.{entry_of}
 use Rattle.sst_block.specs.declared.row_form.RowForm.TheVariants.{Entries}
-use Rattle.sst_cli.specs.BlockBased.{rows_of}
+use Rattle.sst_bbt_spec.specs.Rows.{rows_of}
 use Rattle.sst_cli.proofs.Rows.{weight-append}
 use Rattle.sst_cli.proofs.Added.{data_takes, data-more, last-more, has_room}
 use Rattle.sst_cli.proofs.bbt_writer.BbtWriter.push.Goals as goal

@@ -12,9 +12,9 @@ use Rattle.sst_key.specs.declared.calls.Format.TheVariants.{Block}
 use Rattle.sst_key.specs.ListMachine.{answer_of, replies_from, below, place_in, place_before, seek_of, seek_for_prev_of, get_of, shows, lands, where_passes, is_of_user, is_before_target, is_up_to_target}
 use Rattle.sst_key.proofs.Counting.{count-yes, count-no}
 use Rattle.sst_key.proofs.Landings.{in-place, in-no_place}
-use Rattle.sst_cli.specs.BlockBased.{HasSeq}
-use Rattle.sst_cli.specs.Way.{IndexedBlock, Separate, IsUpToSeparator, IsAfterSeparator, is_separator_before, seek_tag, seek_for_prev_tag, joined, passed, seek_passed, seek_for_prev_passed, last_passed, way_seek, way_get, way_seek_for_prev, way_answer, way_replies_from}
-use Rattle.sst_cli.proofs.SeparatorOrder.{seek-ahead, seek-behind, prev-ahead, prev-behind}
+use Rattle.sst_bbt_spec.specs.Rows.{HasSeq}
+use Rattle.sst_bbt_spec.specs.Way.{IndexedBlock, Separate, IsUpToSeparator, IsAfterSeparator, is_separator_before, seek_tag, seek_for_prev_tag, joined, passed, seek_passed, seek_for_prev_passed, last_passed, way_seek, way_get, way_seek_for_prev, way_answer, way_replies_from}
+use Rattle.sst_bbt_spec.proofs.SeparatorOrder.{seek-ahead, seek-behind, prev-ahead, prev-behind}
 
 pub All-front : (P : Entry → Type 0) (xs ys : List Entry) → All P (xs ++ ys) → All P xs
 All-front P [] ys all = All-nil P

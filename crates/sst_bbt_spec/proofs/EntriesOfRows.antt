@@ -9,7 +9,7 @@ use Rattle.sst_key.specs.InternalKey.{user_of, tag_of, kind_numbered}
 use Rattle.sst_key.proofs.KeyParts.{user_of-key, tag_of-key, tag-fits, internal_cmp-entries, IsBefore-from_less}
 use Rattle.sst_block.specs.declared.row_form.RowForm.TheVariants.{Entries}
 use Rattle.sst_block.specs.Block.{Row, IsRow, AreOrdered}
-use Rattle.sst_cli.specs.BlockBased.{HasSeq, row_of, rows_of}
+use Rattle.sst_bbt_spec.specs.Rows.{HasSeq, row_of, rows_of}
 
 -- a kind by its number
 kind-numbered : (k : Kind) → kind_numbered (kind_number k) ≡ Some k

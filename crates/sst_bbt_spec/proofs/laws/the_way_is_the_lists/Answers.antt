@@ -1,6 +1,6 @@
 use Rattle.std.proofs.Common.{None}
-use Rattle.sst_cli.proofs.WayLaws.{answer-same, replies-same}
-use Rattle.sst_cli.proofs.way_laws.the_way_is_the_lists.Goals as goal
+use Rattle.sst_bbt_spec.proofs.WayLaws.{answer-same, replies-same}
+use Rattle.sst_bbt_spec.proofs.laws.the_way_is_the_lists.Goals as goal
 
 pub returns-clause-answers : goal.returns-clause-answers
 returns-clause-answers c = answer-same

@@ -13,9 +13,9 @@ use Rattle.sst_key.specs.ListMachine.{is_before_target, is_up_to_target}
 use Rattle.sst_key.proofs.KeyParts.{user_of-key, tag_of-key, tag-fits}
 use Rattle.sst_key.proofs.Landings.{before-fails, up_to-fails}
 use Rattle.sst_key.proofs.TargetOrder.{before-in_words, before-from_words, up_to-in_words, up_to-from_words}
-use Rattle.sst_cli.specs.BlockBased.{HasSeq}
-use Rattle.sst_cli.specs.Way.{is_separator_before, seek_tag, seek_for_prev_tag, IsUpToSeparator, IsAfterSeparator}
-use Rattle.sst_cli.proofs.EntriesOfRows.{kind-small}
+use Rattle.sst_bbt_spec.specs.Rows.{HasSeq}
+use Rattle.sst_bbt_spec.specs.Way.{is_separator_before, seek_tag, seek_for_prev_tag, IsUpToSeparator, IsAfterSeparator}
+use Rattle.sst_bbt_spec.proofs.EntriesOfRows.{kind-small}
 
 -- one key is before another, or no later: user keys bytewise, and then the greater tag first
 abbrev pub Before : List ℕ → ℕ → List ℕ → ℕ → Type 0

@@ -1,0 +1,3 @@
+pub mod EntriesOfRows
+pub mod SeparatorOrder
+pub mod WayLaws
