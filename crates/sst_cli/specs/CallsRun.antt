@@ -6,7 +6,7 @@ use Rattle.sst_key.specs.declared.calls.Call.{Call}
 use Rattle.sst_bbt_spec.specs.Rows.{HasSeq}
 use Rattle.sst_device.specs.Folder.{Files, file_of, misses}
 use Rattle.sst_cli.specs.FaultText.{fault_text}
-use Rattle.sst_cli.specs.Opening.{RowBlock, open_read, blocks_read}
+use Rattle.sst_cli.specs.Opening.{RowBlock, blocks_read}
 use Rattle.sst_cli.specs.Reading.{read_input, read_calls}
 use Rattle.sst_cli.specs.Refusals.{refusal_text}
 use Rattle.sst_cli.specs.Replies.{answers_text, way_text}
@@ -57,7 +57,7 @@ pub record AnsweredByWay (result : Status) (blocks : List IndexedBlock) (calls :
 pub record IsDamaged (result : Status) (file : List ℕ) (before now : Option (List ℕ)) : Type 0 where
   pub ends : result ≡ File
   pub fault : BbtFault
-  pub first : open_read file ≡ Err fault
+  pub first : blocks_read file ≡ Err fault
   pub shown : Shows file fault
   pub printed : now ≡ append_known before (fault_text fault)
 

@@ -8,6 +8,7 @@ use Rattle.sst_block.specs.declared.fault.BlockFault.{BlockFault}
 use Rattle.sst_block.specs.declared.fault.BlockFault.TheVariants.{BadRow, BadRestart, BadFooter, Disorder, BadKind, BadHash, BadHandle}
 use Rattle.sst_device.specs.declared.frame.FrameFault.{FrameFault}
 use Rattle.sst_device.specs.declared.frame.FrameFault.TheVariants.{OutOfFile, TooLarge, Checksum, Compressed}
+use Rattle.sst_meta.specs.Names.{name_bytes}
 use Rattle.sst_meta.specs.declared.meta_fault.MetaFault.{MetaFault}
 use Rattle.sst_meta.specs.declared.meta_fault.MetaFault.TheVariants as meta
 use Rattle.sst_cli.specs.declared.bbt_fault.BbtFault.{BbtFault}
@@ -43,19 +44,25 @@ block_fault_text offset (BadKind at) = with_two (codes "kind") offset at
 block_fault_text offset (BadHash at) = with_two (codes "hash") offset at
 block_fault_text offset (BadHandle at) = with_two (codes "handle") offset at
 
--- what is wrong with the end of a file: `not-table`, `version V`, `checksum-type T`, `footer`, `file-long`, `not-yet`, or
--- what is wrong with its metaindex block
+-- what is wrong with what a file says of itself: `not-table`, `version V`, `checksum-type T`, `comparator`, `index-type T`,
+-- `range-tombstones`, `property NAME`, `missing-property NAME`, `footer`, `file-long`, `not-yet`, or what is wrong with its
+-- metaindex or properties block
 abbrev pub meta_fault_text : MetaFault → List ℕ
 meta_fault_text meta.NotTable = codes "not-table"
 meta_fault_text (meta.Version version) = with_number (codes "version") version
 meta_fault_text (meta.ChecksumType type) = with_number (codes "checksum-type") type
+meta_fault_text meta.Comparator = codes "comparator"
+meta_fault_text (meta.IndexType type) = with_number (codes "index-type") type
+meta_fault_text meta.RangeTombstones = codes "range-tombstones"
+meta_fault_text (meta.BadProperty name) = codes "property " ++ name_bytes name
+meta_fault_text (meta.MissingProperty name) = codes "missing-property " ++ name_bytes name
 meta_fault_text meta.BadFooter = codes "footer"
 meta_fault_text meta.FileLong = codes "file-long"
 meta_fault_text (meta.Frame fault) = frame_fault_text fault
 meta_fault_text (meta.Block h fault) = block_fault_text h.offset fault
 meta_fault_text meta.NotYet = codes "not-yet"
 
--- what is wrong with a file: that of its end, that of a block, or `empty-block O S`
+-- what is wrong with a file: that of what it says of itself, that of a block, or `empty-block O S`
 abbrev pub bbt_fault_text : BbtFault → List ℕ
 bbt_fault_text (bbt.Meta fault) = meta_fault_text fault
 bbt_fault_text (bbt.Frame fault) = frame_fault_text fault

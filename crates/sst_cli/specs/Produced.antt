@@ -4,11 +4,12 @@ use Rattle.sst_key.specs.declared.entries.Entry.{Entry}
 use Rattle.sst_device.specs.Folder.{Files}
 use Rattle.sst_cli.specs.Reading.{read_input}
 use Rattle.sst_cli.specs.Run.{HoldsWritten}
+use Rattle.sst_cli.specs.Words.{WriteLine}
 
 -- the file of the input's entries stands there and the input is read to its end
-pub record HasProduced (count : ℕ) (name : List ℕ) (old new : Option Files) (input left : Option (List ℕ)) : Type 0 where
+pub record HasProduced (count : ℕ) (line : WriteLine) (old new : Option Files) (input left : Option (List ℕ)) : Type 0 where
   pub entries : List Entry
   pub counted : count ≡ length entries
-  pub file : HoldsWritten name entries old new
+  pub file : HoldsWritten line entries old new
   pub said : (text : List ℕ) → input ≡ Some text → read_input text ≡ Ok entries
   pub read : (text : List ℕ) → input ≡ Some text → left ≡ Some []

@@ -7,6 +7,7 @@ use Rattle.sst_key.specs.declared.entries.Entry.{Entry}
 use Rattle.sst_device.specs.Folder.{Files, put_file}
 use Rattle.sst_cli.specs.Reading.{read_input}
 use Rattle.sst_cli.specs.Refusals.{refusal_text}
+use Rattle.sst_cli.specs.Words.{WriteLine}
 use Rattle.sst_cli.specs.Written.{Written}
 use Rattle.sst_cli.specs.declared.refusal.Refusal.{Refusal}
 use Rattle.sst_cli.specs.declared.program.Status.{Status}
@@ -38,14 +39,14 @@ IsFault status = (status ≡ Device) ⊎ (status ≡ Memory)
 abbrev pub ChangesOnly : List ℕ → Option Files → Option Files → Type 0
 ChangesOnly name old new = (new ≡ old) ⊎ ((bytes : List ℕ) × (new ≡ put_file old name bytes))
 
--- the named file holds the bytes that are written for the list, and no other file changed
-abbrev pub HoldsWritten : List ℕ → List Entry → Option Files → Option Files → Type 0
-HoldsWritten name entries old new = (bytes : List ℕ) × Written bytes entries × (new ≡ put_file old name bytes)
+-- the named file holds the bytes that are written for the list with the options, and no other file changed
+abbrev pub HoldsWritten : WriteLine → List Entry → Option Files → Option Files → Type 0
+HoldsWritten line entries old new = (bytes : List ℕ) × Written line.options bytes entries × (new ≡ put_file old line.name bytes)
 
 -- a `write` of this list is carried out: the named file holds what is written for it, no other file changed, the
 -- input is read to its end, and the text says how many entries there are
-pub record Wrote (result : Status) (name : List ℕ) (entries : List Entry) (old new : Option Files) (left : Option (List ℕ)) (before now : Option (List ℕ)) : Type 0 where
+pub record Wrote (result : Status) (line : WriteLine) (entries : List Entry) (old new : Option Files) (left : Option (List ℕ)) (before now : Option (List ℕ)) : Type 0 where
   pub done : result ≡ Done
-  pub file : HoldsWritten name entries old new
+  pub file : HoldsWritten line entries old new
   pub read : left ≡ Some []
   pub printed : now ≡ append_known before (done_text (length entries))

@@ -21,6 +21,7 @@ use Rattle.sst_cli.specs.Cut.{data_block, blocks_for}
 use Rattle.sst_meta.specs.PropertyNames.{data_size, filter_size, format_version, index_size, num_data_blocks, num_entries, raw_key_size, raw_value_size}
 use Rattle.sst_meta.specs.declared.name.Name.TheVariants as name
 use Rattle.sst_cli.specs.declared.bbt_options.BbtOptions.{BbtOptions}
+use Rattle.sst_cli.specs.declared.properties.Sizes.{Sizes}
 
 -- an entry is within the limits of each entry alone
 pub record IsInLimits (e : Entry) : Type 0 where
@@ -66,18 +67,6 @@ value_bytes entries = sum_by (λ e. length e.value) entries
 -- a property
 abbrev pub property : List ℕ → List ℕ → Row
 property name value = record { key = name; value = value }
-
--- the numbers that the properties say
-pub record Sizes : Type 0 where
-  -- of the stored data blocks, and of the stored index block
-  pub data : ℕ
-  pub index : ℕ
-  -- how many data blocks there are, and how many entries
-  pub blocks : ℕ
-  pub entries : ℕ
-  -- of all internal keys, and of all values
-  pub keys : ℕ
-  pub values : ℕ
 
 -- the properties, in bytewise order of their names
 abbrev pub properties : Sizes → List Row

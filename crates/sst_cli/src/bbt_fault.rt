@@ -9,7 +9,7 @@ use sst_num::Handle;
 /// (table/block_based/block_based_table_reader.cc).
 #[derive(Clone, Copy, Debug, PartialEq, Eq)]
 pub enum BbtFault {
-    /// Its footer or its metaindex.
+    /// What it says of itself: its footer, its metaindex or its properties.
     Meta(MetaFault),
     /// An index or data block isn't framed.
     Frame(FrameFault),

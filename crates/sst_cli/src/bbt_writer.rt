@@ -1,22 +1,26 @@
 //! The writer of block-based files: entries are added in order, or refused for the first reason in a fixed
 //! order.
 //!
-//! What it keeps after a list is `After` (specs/After.antt): the data block so far, the last key, and what
-//! counts towards the limits.
-ghost use Rattle.std.specs.Prelude.{◌≡◌, ℕ, ◌<◌, ◌≤◌, ◌^◌, List, [], ◌∷◌, ◌++◌, length, Some, None, Err, IsErr, IfOk, OnOk, OnErr};
+//! What it keeps after a list is `After` (specs/After.antt): the data block that isn't ended, the index of those that are,
+//! the last key, and what counts towards the limits and the properties.
+ghost use Rattle.std.specs.Prelude.{◌≡◌, ℕ, ◌<◌, ◌≤◌, ◌^◌, false, List, [], ◌∷◌, ◌++◌, length, Some, None, Err, IsErr, IfOk, OnOk, OnErr};
 ghost use Rattle.sst_key.specs.Entry.{entry_of, key_of};
 ghost use Rattle.sst_key.specs.Entry.{weight as weight_of};
 ghost use Rattle.sst_key.specs.declared.entries.Entry.{Entry};
-ghost use Rattle.sst_block.specs.Builder.{last_key};
+ghost use Rattle.sst_block.specs.Builder.{Holds, last_key};
+ghost use Rattle.sst_block.specs.declared.row_form.RowForm.TheVariants.{Entries, Index};
 ghost use Rattle.sst_cli.specs.After.{After, HasFailed, IsInUse};
 ghost use Rattle.sst_cli.specs.Reasons.{reason, is_after};
 ghost use Rattle.sst_bbt_spec.specs.Rows.{rows_of};
 ghost use Rattle.sst_cli.specs.Written.{Fits, Written};
 
-use crate::table_parts::{index_block, metaindex_block, put_block, put_data, put_footer};
+use crate::bbt_options::BbtOptions;
+use crate::properties::Sizes;
+use crate::table_parts::{TRAILER_LENGTH, put_end};
 use sst_block::{BlockBuilder, RowForm};
 use sst_key::{EntryView, WriteFault, cmp_internal, pack};
-use sst_num::{Memory, Refused};
+use sst_device::put_frame;
+use sst_num::{Handle, Memory, Refused, put_handle};
 use std::alloc::Global;
 use std::mem;
 
@@ -25,6 +29,9 @@ mod tests;
 
 /// A restart stands at each so many entries of a data block.
 const RESTART_INTERVAL: u32 = 16;
+
+/// A restart stands at each row of an index block.
+const EACH_ROW: u32 = 1;
 
 /// The most bytes of a user key.
 const KEY_LIMIT: usize = 65_536;
@@ -40,48 +47,89 @@ const ENTRY_WEIGHT: u64 = 64;
 
 /// Makes a block-based file of entries that come in order.
 ///
-/// The file is all that the calls append, in order. For now nothing is appended before `finish`, and the entries
-/// stand in one data block. After want of memory each later call answers it.
+/// The file is all that the calls append, in order: each data block as it ends, and the rest in `finish`. After want of
+/// memory each later call answers it.
 /// RocksDB: `BlockBasedTableBuilder` in table/block_based/block_based_table_builder.h.
 #[derive(Drop)]
 pub struct BbtWriter {
     /// Where memory comes from.
     alloc: Global,
-    /// The data block so far.
+    /// What was chosen.
+    options: BbtOptions,
+    /// The data block that isn't ended.
     block: BlockBuilder,
+    /// How many entries it has.
+    rows: u64,
+    /// The index of the data blocks that are ended.
+    index: BlockBuilder,
+    /// How many these are.
+    blocks: u64,
+    /// How many bytes they take with their trailers.
+    data: u64,
     /// The internal key of the last entry.
     last: Vec<u8>,
     /// The internal key of the entry that is being added.
     key: Vec<u8>,
     /// How many entries there are.
     count: u64,
+    /// The bytes of their internal keys.
+    keys: u64,
+    /// The bytes of their values.
+    values: u64,
     /// What they weigh.
     weight: u64,
     /// Memory ran out in an earlier call.
     failed: bool,
 }
 
+/// A data block with no entry.
+fn data_block(alloc: Global) -> Result<BlockBuilder, Memory>
+    ensures { IfOk result (λ b. Holds b Entries 16 []) }
+{
+    BlockBuilder::new(alloc, RowForm::Entries, RESTART_INTERVAL, false)
+}
+
+/// An index with no row.
+fn index_block(alloc: Global) -> Result<BlockBuilder, Memory>
+    ensures { IfOk result (λ b. Holds b (Index false false) 1 []) }
+{
+    let form = RowForm::Index {
+        user_key: false,
+        delta: false,
+    };
+    BlockBuilder::new(alloc, form, EACH_ROW, false)
+}
+
 impl BbtWriter {
     /// A writer of no entry.
-    pub fn new(alloc: Global) -> Result<BbtWriter, Memory>
-        ensures { IfOk result (λ w. After w [] []) }
+    pub fn new(alloc: Global, options: BbtOptions) -> Result<BbtWriter, Memory>
+        ensures after { IfOk result (λ w. After w [] []) }
+        ensures options { IfOk result (λ w. w.options ≡ options) }
     {
         Ok(BbtWriter {
             alloc,
-            block: BlockBuilder::new(alloc, RowForm::Entries, RESTART_INTERVAL, false)?,
+            options,
+            block: data_block(alloc)?,
+            rows: 0,
+            index: index_block(alloc)?,
+            blocks: 0,
+            data: 0,
             last: Vec::new(alloc),
             key: Vec::new(alloc),
             count: 0,
+            keys: 0,
+            values: 0,
             weight: 0,
             failed: false,
         })
     }
 
-    /// Adds an entry after the others, whose sequence number is below 2^56, and appends the blocks that it
-    /// finished, of which there are none for now.
+    /// Adds an entry after the others, whose sequence number is below 2^56, and appends the data block that ended
+    /// before it, if one did.
     ///
     /// It refuses with the first of `NotIncreasing`, `KeyLong`, `ValueLong` and `Heavy` that the entry gives
-    /// reason for; then the writer and `out` are as they were.
+    /// reason for; then the writer and `out` are as they were. Where memory runs out, `out` holds its old bytes followed
+    /// by any.
     pub fn add(&mut self, e: EntryView<'_>, out: &mut Vec<u8>) -> Result<(), Refused<WriteFault>>
         requires seq { e.seq < 2 ^ 56 }
         requires writer { IsInUse self.old }
@@ -93,15 +141,16 @@ impl BbtWriter {
         ensures refused { (fault : WriteFault) → result ≡ Err (Refused.Cause fault)
             → (entries : List Entry) (bytes : List ℕ) → After self.old entries bytes
             → (reason entries (entry_of e.entry) ≡ Some fault) × After self.new entries bytes }
-        ensures out { OnErr result (out.new.items ≡ out.old.items) }
+        ensures out { (fault : WriteFault) → result ≡ Err (Refused.Cause fault) → out.new.items ≡ out.old.items }
+        ensures grows { (rest : List ℕ) × (out.new.items ≡ out.old.items ++ rest) }
+        ensures options { self.new.options ≡ self.old.options }
         ensures memory { result ≡ Err Refused.Memory → HasFailed self.new }
         ensures later { HasFailed self.old → result ≡ Err Refused.Memory }
     {
-        let _ = out;
         if self.failed {
             return Err(Refused::Memory);
         }
-        match self.put(&e) {
+        match self.put(&e, out) {
             Ok(()) => Ok(()),
             Err(Refused::Cause(fault)) => Err(Refused::Cause(fault)),
             Err(Refused::Memory) => {
@@ -128,7 +177,7 @@ impl BbtWriter {
     pub fn finish(self, out: &mut Vec<u8>) -> Result<u64, Memory>
         requires { IsInUse self }
         ensures written { IfOk result (λ count. (entries : List Entry) (bytes : List ℕ) → After self entries bytes
-            → (rest : List ℕ) × (out.new.items ≡ out.old.items ++ rest) × Written (bytes ++ rest) entries
+            → (rest : List ℕ) × (out.new.items ≡ out.old.items ++ rest) × Written self.options (bytes ++ rest) entries
             × (count ≡ length entries)) }
         ensures err { OnErr result ((rest : List ℕ) × (out.new.items ≡ out.old.items ++ rest)) }
         ensures later { HasFailed self → IsErr result }
@@ -136,51 +185,96 @@ impl BbtWriter {
         if self.failed {
             return Err(Memory);
         }
-        let start = out.len();
-        let place = put_data(out, self.count, self.block)?;
-        let rows = index_block(self.alloc, &self.last, place)?;
-        let index = put_block(out, start, rows.as_slice())?;
-        let names = metaindex_block(self.alloc)?;
-        let metaindex = put_block(out, start, names.as_slice())?;
-        put_footer(out, metaindex, index)?;
+        let mut writer = self;
+        if writer.rows > 0 {
+            writer.end_block(out)?;
+        }
+        writer.put_rest(out)
+    }
+
+    /// Appends what stands behind the data blocks, all of which are ended, and answers how many entries there are.
+    fn put_rest(self, out: &mut Vec<u8>) -> Result<u64, Memory> {
+        let index = self.index.finish()?;
+        let sizes = Sizes {
+            data: self.data,
+            index: index.len() as u64 + TRAILER_LENGTH,
+            blocks: self.blocks,
+            entries: self.count,
+            keys: self.keys,
+            values: self.values,
+        };
+        put_end(self.alloc, out, index.as_slice(), sizes)?;
         Ok(self.count)
     }
 
+    /// The data block has an entry, and so many bytes that it is ended before the next one.
+    fn is_full(&self) -> bool {
+        if self.rows == 0 {
+            return false;
+        }
+        self.block.size_now() >= self.options.block_size as usize
+    }
+
+    /// Ends the data block, which has an entry: appends it, and adds its row to the index. Its separator is its last key.
+    ///
+    /// RocksDB: `BlockBasedTableBuilder::Flush` in table/block_based/block_based_table_builder.cc, and
+    /// `ShortenedIndexBuilder::AddIndexEntry` in table/block_based/index_builder.h, which shortens separators.
+    fn end_block(&mut self, out: &mut Vec<u8>) -> Result<(), Memory> {
+        let next = data_block(self.alloc)?;
+        let block = mem::replace(&mut self.block, next).finish()?;
+        let size = block.len() as u64;
+        put_frame(out, block.as_slice())?;
+        let mut value = Vec::new(self.alloc);
+        let handle = Handle {
+            offset: self.data,
+            size,
+        };
+        put_handle(&mut value, handle)?;
+        self.index.add(&self.last, &value, &[])?;
+        self.rows = 0;
+        self.blocks += 1;
+        self.data += size + TRAILER_LENGTH;
+        Ok(())
+    }
+
     /// Adds an entry after the others, or refuses it.
-    fn put(&mut self, e: &EntryView<'_>) -> Result<(), Refused<WriteFault>>
+    fn put(&mut self, e: &EntryView<'_>, out: &mut Vec<u8>) -> Result<(), Refused<WriteFault>>
         requires seq { e.now.seq < 2 ^ 56 }
         requires writer { (entries : List Entry) × (bytes : List ℕ) × After self.old entries bytes }
         ensures ok { OnOk result ((entries : List Entry) (bytes : List ℕ) → After self.old entries bytes
-            → After self.new (entries ++ entry_of e.now ∷ []) bytes) }
+            → (piece : List ℕ) × (out.new.items ≡ out.old.items ++ piece)
+            × After self.new (entries ++ entry_of e.now ∷ []) (bytes ++ piece)) }
         ensures good { OnOk result ((entries : List Entry) (bytes : List ℕ) → After self.old entries bytes
             → reason entries (entry_of e.now) ≡ None) }
         ensures refused { (fault : WriteFault) → result ≡ Err (Refused.Cause fault)
             → (entries : List Entry) (bytes : List ℕ) → After self.old entries bytes
             → (reason entries (entry_of e.now) ≡ Some fault) × After self.new entries bytes }
+        ensures out { (fault : WriteFault) → result ≡ Err (Refused.Cause fault) → out.new.items ≡ out.old.items }
+        ensures grows { (rest : List ℕ) × (out.new.items ≡ out.old.items ++ rest) }
+        ensures options { self.new.options ≡ self.old.options }
     {
         self.key.clear();
         pack(&mut self.key, e.user, e.seq, e.kind)?;
         match fault_of(self.count, self.weight, &self.last, &self.key, e) {
             Some(fault) => Err(Refused::Cause(fault)),
             None => {
+                if self.is_full() {
+                    self.end_block(out)?;
+                }
                 self.push(e)?;
                 Ok(())
             }
         }
     }
 
-    /// Adds the row of an entry that isn't refused, whose internal key was made.
-    fn push(&mut self, e: &EntryView<'_>) -> Result<(), Memory>
-        requires key { self.old.key.items ≡ key_of (entry_of e.now) }
-        requires writer { (entries : List Entry) × (bytes : List ℕ) × After self.old entries bytes }
-        requires fits { (entries : List Entry) (bytes : List ℕ) → After self.old entries bytes
-            → Fits (entries ++ entry_of e.now ∷ []) }
-        ensures { OnOk result ((entries : List Entry) (bytes : List ℕ) → After self.old entries bytes
-            → After self.new (entries ++ entry_of e.now ∷ []) bytes) }
-    {
+    /// Adds the row of an entry that isn't refused, whose internal key was made, to a data block that isn't full.
+    fn push(&mut self, e: &EntryView<'_>) -> Result<(), Memory> {
         self.block.add(&self.key, e.value, &[])?;
+        self.keys += self.key.len() as u64;
         mem::swap(&mut self.last, &mut self.key);
+        self.rows += 1;
         self.count += 1;
+        self.values += e.value.len() as u64;
         self.weight += e.user.len() as u64 + e.value.len() as u64 + ENTRY_WEIGHT;
         Ok(())
     }

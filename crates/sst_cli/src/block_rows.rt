@@ -22,28 +22,6 @@ pub fn count_rows(alloc: Global, block: &[u8], form: RowForm) -> Result<u32, Ref
     check_block(alloc, block, form)
 }
 
-/// The handle that the first row of an index block has as its value, and its key. None where it isn't a handle.
-pub fn first_row(alloc: Global, block: &[u8]) -> Result<Option<(Handle, Bytes)>, Memory>
-    requires { (first : Row) × (rest : List Row) × Reads (Index false false) block.now (first ∷ rest) }
-    ensures { IfOk result (λ place. (first : Row) (rest : List Row) → Reads (Index false false) block.now (first ∷ rest)
-        → place ≡ option_map (λ read. (read.0, first.key)) (handle_at first.value)) }
-{
-    let room = KeyRoom::new(alloc)?;
-    let form = RowForm::Index {
-        user_key: false,
-        delta: false,
-    };
-    let mut rows = BlockIter::start(block, form, room);
-    rows.first();
-    match take_handle(rows.value()) {
-        Some((handle, _)) => {
-            let separator = Bytes::from_slice(alloc, rows.key())?;
-            Ok(Some((handle, separator)))
-        }
-        None => Ok(None),
-    }
-}
-
 /// The entry of a row: its user key and its value are copied.
 fn entry_of(alloc: Global, key: &[u8], value: &[u8]) -> Result<Entry, Memory>
     requires { IsInternalKey key.now }
@@ -66,22 +44,25 @@ fn entry_of(alloc: Global, key: &[u8], value: &[u8]) -> Result<Entry, Memory>
     }
 }
 
-/// The entries of a data block, of which there are `count`.
-pub fn entries_of(alloc: Global, block: &[u8], count: u32) -> Result<Vec<Entry>, Memory>
+/// Appends the entries of a data block, of which there are `count`.
+pub fn add_entries(
+    alloc: Global,
+    block: &[u8],
+    count: u32,
+    entries: &mut Vec<Entry>,
+) -> Result<(), Memory>
     requires short { length block.now ≤ 2 ^ 29 }
     requires read { (rows : List Row) × Reads Entries block.now rows × (length rows ≡ count) }
-    ensures rows { IfOk result (λ entries. (rows : List Row) → Reads Entries block.now rows → length rows ≡ count
-        → rows ≡ rows_of entries.items) }
-    ensures are { IfOk result (λ entries. AreEntries entries.items) }
+    ensures rows { OnOk result ((rows : List Row) → Reads Entries block.now rows → length rows ≡ count
+        → (added : List entry_type) × (entries.new.items ≡ entries.old.items ++ added) × (rows ≡ rows_of added) × AreEntries added) }
 {
     let room = KeyRoom::new(alloc)?;
     let mut rows = BlockIter::start(block, RowForm::Entries, room);
-    let mut entries = Vec::new(alloc);
     rows.first();
     for _row in 0..count {
         let entry = entry_of(alloc, rows.key(), rows.value())?;
         entries.push(entry)?;
         rows.next();
     }
-    Ok(entries)
+    Ok(())
 }

@@ -2,13 +2,13 @@
 ghost use Rattle.std.specs.Prelude.{◌≡◌, ◌≢◌, ◌⊎◌, ℕ, ◌≤◌, List, [], Option, Some, Ok, Err, IsTrue, IfSome};
 ghost use Rattle.std.specs.Io.KnownBytes.{append_known};
 ghost use Rattle.sst_key.specs.declared.calls.Call.{Call};
-ghost use Rattle.sst_key.specs.declared.entries.Entry.{Entry};
+ghost use Rattle.sst_bbt_spec.specs.Way.{IndexedBlock};
 ghost use Rattle.sst_bbt_spec.specs.BlockBased.{Opens};
 ghost use Rattle.sst_cli.specs.CallsRun.{IsAnswered, IsAnswersText, IsCallsText, IsLacking};
 ghost use Rattle.sst_cli.specs.FaultText.{fault_text};
 ghost use Rattle.sst_device.specs.Faults.{Rose};
 ghost use Rattle.sst_device.specs.Folder.{file_of, misses};
-ghost use Rattle.sst_cli.specs.Opening.{open_read, blocks_read};
+ghost use Rattle.sst_cli.specs.Opening.{blocks_read};
 ghost use Rattle.sst_cli.specs.Printed.{IsPrinted, Prints};
 ghost use Rattle.sst_cli.specs.Reading as reading;
 ghost use Rattle.sst_cli.specs.Refusals.{refusal_text};
@@ -67,9 +67,9 @@ fn answer_calls<F: Folder, O: Sink>(
         × Prints result text (O.written out.old) (O.written out.new) }
     ensures ends { (result ≡ Status.Done) ⊎ ((result ≡ Status.File) ⊎ IsFault result) }
     ensures opened { result ≡ Status.Done → (file : List ℕ) → file_of (F.held files.old) name.now ≡ Some file
-        → (entries : List Entry) × Opens file entries }
+        → (blocks : List IndexedBlock) × Opens file blocks }
     ensures damaged { result ≡ Status.File → (file : List ℕ) → file_of (F.held files.old) name.now ≡ Some file
-        → (fault : faults.BbtFault) × (open_read file ≡ Err fault) }
+        → (fault : faults.BbtFault) × (blocks_read file ≡ Err fault) }
     ensures absent { IsTrue (misses (F.held files.old) name.now 0) → IsFault result }
     ensures device { result ≡ Status.Device → IsTrue (misses (F.held files.old) name.now 0)
         ⊎ (Rose (F.faults files.old) (F.faults files.new) ⊎ Rose (O.faults out.old) (O.faults out.new)) }
@@ -106,9 +106,9 @@ pub fn calls<F: Folder, I: Intake, O: Sink>(
     ensures input { result ≡ Status.Input → (text : List ℕ) → I.left input.old ≡ Some text
         → (refusal : Refusal) × (reading.read_calls text ≡ Err refusal) }
     ensures opened { result ≡ Status.Done → (file : List ℕ) → file_of (F.held files.old) name.now ≡ Some file
-        → (entries : List Entry) × Opens file entries }
+        → (blocks : List IndexedBlock) × Opens file blocks }
     ensures damaged { result ≡ Status.File → (file : List ℕ) → file_of (F.held files.old) name.now ≡ Some file
-        → (fault : faults.BbtFault) × (open_read file ≡ Err fault) }
+        → (fault : faults.BbtFault) × (blocks_read file ≡ Err fault) }
     ensures absent { IsTrue (misses (F.held files.old) name.now 0) → (result ≡ Status.Input) ⊎ IsFault result }
     ensures device { result ≡ Status.Device → IsLacking (F.held files.old) name.now (I.left input.old)
         ⊎ (Rose (F.faults files.old) (F.faults files.new)

@@ -3,11 +3,12 @@ ghost use Rattle.std.specs.Prelude.{◌≡◌, Some, IfOk};
 ghost use Rattle.std.specs.String.{string_bytes};
 ghost use Rattle.sst_cli.specs.FaultText.{frame_fault_text, block_fault_text, meta_fault_text, bbt_fault_text};
 ghost use Rattle.sst_cli.specs.FaultText as texts;
+ghost use Rattle.sst_meta.specs.Names.{name_bytes};
 
 use crate::bbt_fault::BbtFault;
 use sst_block::BlockFault;
 use sst_device::FrameFault;
-use sst_meta::MetaFault;
+use sst_meta::{MetaFault, Name};
 use sst_num::{Handle, Memory};
 use std::alloc::Global;
 use std::fmt;
@@ -78,14 +79,43 @@ fn within(handle: Handle, fault: BlockFault) -> BlockDamage
     }
 }
 
-/// What is wrong with the end of a file.
+/// A name of the metaindex or of a property.
+#[derive(Clone, Copy)]
+struct PrintedName {
+    /// The name.
+    name: Name,
+}
+
+impl fmt::Display for PrintedName {
+    ghost output = { λ printed. Some (name_bytes printed.name) };
+
+    fn fmt<W: fmt::Write>(&self, f: &mut fmt::Formatter<W>) -> fmt::Result {
+        match self.name {
+            Name::Properties => f.write_str("rocksdb.properties"),
+            Name::IndexType => f.write_str("rocksdb.block.based.table.index.type"),
+            Name::GlobalSequence => f.write_str("rocksdb.external_sst_file.global_seqno"),
+            Name::ExternalVersion => f.write_str("rocksdb.external_sst_file.version"),
+            Name::IndexKeyIsUserKey => f.write_str("rocksdb.index.key.is.user.key"),
+            Name::IndexValueIsDeltaEncoded => f.write_str("rocksdb.index.value.is.delta.encoded"),
+        }
+    }
+}
+
+/// The name as it is printed.
+fn named(name: Name) -> PrintedName
+    ensures { result.name ≡ name }
+{
+    PrintedName { name }
+}
+
+/// What is wrong with what a file says of itself.
 #[derive(Clone, Copy)]
 struct MetaDamage {
     /// What is wrong.
     fault: MetaFault,
 }
 
-/// What is wrong with the end of the file.
+/// What is wrong with what the file says of itself.
 fn ending(fault: MetaFault) -> MetaDamage
     ensures { result.fault ≡ fault }
 {
@@ -100,6 +130,11 @@ impl fmt::Display for MetaDamage {
             MetaFault::NotTable => f.write_str("not-table"),
             MetaFault::Version(version) => write!(f, "version {version}"),
             MetaFault::ChecksumType(kind) => write!(f, "checksum-type {kind}"),
+            MetaFault::Comparator => f.write_str("comparator"),
+            MetaFault::IndexType(kind) => write!(f, "index-type {kind}"),
+            MetaFault::RangeTombstones => f.write_str("range-tombstones"),
+            MetaFault::BadProperty(name) => write!(f, "property {}", named(name)),
+            MetaFault::MissingProperty(name) => write!(f, "missing-property {}", named(name)),
             MetaFault::BadFooter => f.write_str("footer"),
             MetaFault::FileLong => f.write_str("file-long"),
             MetaFault::Frame(fault) => write!(f, "{}", stored(fault)),

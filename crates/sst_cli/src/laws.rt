@@ -1,22 +1,33 @@
 //! What is true of each file and of each text, whatever code makes or reads it.
-ghost use Rattle.std.specs.Prelude.{◌≡◌, ◌<◌, ◌≤◌, ◌^◌, List, length, Some, Ok};
+ghost use Rattle.std.specs.Prelude.{◌≡◌, ℕ, ◌<◌, ◌≤◌, ◌^◌, List, length, Some, Ok};
 ghost use Rattle.hex.specs.Hex.{IsBytes};
 ghost use Rattle.sst_key.specs.declared.calls.Call.{Call};
 ghost use Rattle.sst_key.specs.declared.entries.Entry.{Entry};
 ghost use Rattle.sst_cli.specs.Written.{Fits, Written, table_of};
+ghost use Rattle.sst_cli.specs.Cut.{AreBlocks, blocks_for, entries_in};
 ghost use Rattle.sst_cli.specs.Texts.{entry_of_line};
+ghost use Rattle.sst_cli.specs.declared.bbt_options.BbtOptions.{BbtOptions};
 ghost use Rattle.sst_cli.specs.EntryText.{AreBytes, entry_line, lines_text};
 ghost use Rattle.sst_cli.specs.CallText.{IsInLimits, IsOfBytes, AreInLimits, AreOfBytes, call_of_line, call_line, calls_text};
 ghost use Rattle.sst_cli.specs.Reading.{read_input, read_calls};
 
 /// The file that is written for a list stands for that list.
 ///
-/// It holds of each list that is written: one that increases, whose entries are within their limits, and whose
-/// weight is at most 2^28. The list with no entry is one.
+/// It holds of all options, and of each list that is written: one that increases, whose entries are within their limits, and
+/// whose weight is at most 2^28. The list with no entry is one.
 /// RocksDB: `BlockBasedTableBuilder::Add` and `Finish` in
 /// table/block_based/block_based_table_builder.cc.
 pub fn written_file_stands_for_its_list()
-    ensures { (entries : List Entry) → Fits entries → Written (table_of entries) entries }
+    ensures { (options : BbtOptions) (entries : List Entry) → Fits entries → Written options (table_of options entries) entries }
+{}
+
+/// The data blocks into which a list is cut are its entries, each block ends where it is full, and no sooner.
+///
+/// `entries`: joined they are the list. `full`: each has an entry; each but the last is full, and without its last entry none is.
+/// RocksDB: `FlushBlockBySizePolicy` in table/block_based/flush_block_policy.cc.
+pub fn a_list_is_cut_where_blocks_are_full()
+    ensures entries { (limit : ℕ) (entries : List Entry) → entries_in (blocks_for limit entries) ≡ entries }
+    ensures full { (limit : ℕ) (entries : List Entry) → AreBlocks limit (blocks_for limit entries) }
 {}
 
 /// The line that is written for an entry reads back as the entry.

@@ -96,9 +96,11 @@
 
 mod answering;
 mod bbt_fault;
+mod bbt_options;
 mod bbt_reader;
 mod bbt_writer;
 mod block_rows;
+mod block_search;
 mod call_command;
 mod call_line;
 mod call_list;
@@ -112,31 +114,26 @@ mod fields;
 mod laws;
 mod lines;
 mod list_search;
-mod load;
 mod opening_laws;
 mod printing;
 mod produce;
 mod program;
+mod properties;
 mod reading;
 mod refusal;
 mod reply_line;
 mod separators;
 mod table_parts;
-mod way_laws;
 mod words;
 mod write_command;
 
 pub use bbt_fault::BbtFault;
 pub use laws::{
-    a_call_line_reads_back, a_call_list_reads_back, a_list_reads_back, an_entry_line_reads_back,
-    written_file_stands_for_its_list,
+    a_call_line_reads_back, a_call_list_reads_back, a_list_is_cut_where_blocks_are_full,
+    a_list_reads_back, an_entry_line_reads_back, written_file_stands_for_its_list,
 };
 pub use opening_laws::{
-    a_fault_is_shown, a_file_opens_to_its_rows, a_file_stands_for_one_list,
-    a_file_that_opens_shows_no_fault, a_footer_is_read, a_written_file_reads_back,
-    what_opens_is_ordered,
+    a_fault_is_shown, a_file_opens_to_its_blocks, a_file_that_opens_shows_no_fault,
+    a_written_file_reads_back,
 };
 pub use program::{Status, run};
-pub use way_laws::{
-    a_file_opens_to_its_blocks, a_file_that_stands_is_separated, the_way_is_the_lists,
-};

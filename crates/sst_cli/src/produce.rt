@@ -10,6 +10,7 @@ ghost use Rattle.sst_cli.specs.declared.refusal.Refusal.{Refusal};
 
 use crate::bbt_writer::BbtWriter;
 use crate::reading::{InputStop, add_lines};
+use crate::words::WriteLine;
 use sst_device::{DevStop, Folder, Intake};
 use std::alloc::Global;
 
@@ -17,23 +18,23 @@ use std::alloc::Global;
 /// are.
 pub fn produce<F: Folder, I: Intake>(
     alloc: Global,
-    name: &str,
+    line: WriteLine<'_>,
     files: &mut F,
     input: &mut I,
 ) -> Result<u64, InputStop>
-    ensures ok { IfOk result (λ count. HasProduced count name.now (F.held files.old) (F.held files.new)
+    ensures ok { IfOk result (λ count. HasProduced count (record { name = line.name.now; options = line.options }) (F.held files.old) (F.held files.new)
         (I.left input.old) (I.left input.new)) }
     ensures refused { (refusal : Refusal) → result ≡ Err (InputStop.Refused refusal)
         → (text : List ℕ) → I.left input.old ≡ Some text → read_input text ≡ Err refusal }
-    ensures others { ChangesOnly name.now (F.held files.old) (F.held files.new) }
+    ensures others { ChangesOnly line.name.now (F.held files.old) (F.held files.new) }
     ensures failed { result ≡ Err (InputStop.Device DevStop.Failed) → Rose (F.faults files.old) (F.faults files.new)
         ⊎ Rose (I.faults input.old) (I.faults input.new) }
 {
-    files.begin(name)?;
-    let mut writer = BbtWriter::new(alloc)?;
+    files.begin(line.name)?;
+    let mut writer = BbtWriter::new(alloc, line.options)?;
     let mut file = Vec::new(alloc);
     add_lines(alloc, &mut writer, input, &mut file)?;
     let count = writer.finish(&mut file)?;
-    files.add(name, &file)?;
+    files.add(line.name, &file)?;
     Ok(count)
 }

@@ -11,20 +11,21 @@ ghost use Rattle.sst_cli.specs.CallsRun.{Answered, AnsweredByWay, IsDamaged, IsL
 ghost use Rattle.sst_cli.specs.EntryText.{lines_text, AreBytes};
 ghost use Rattle.sst_device.specs.Faults.{Rose};
 ghost use Rattle.sst_device.specs.Folder.{file_of, misses};
-ghost use Rattle.sst_cli.specs.Opening.{open_read};
+ghost use Rattle.sst_cli.specs.Opening.{blocks_read};
 ghost use Rattle.sst_cli.specs.Printed.{Prints};
 ghost use Rattle.sst_cli.specs.Reading as reading;
 ghost use Rattle.sst_cli.specs.Refusals.{refusal_text};
 ghost use Rattle.sst_cli.specs.Run.{IsFault, ChangesOnly, Wrote, usage_text};
-ghost use Rattle.sst_cli.specs.TableBlocks.{blocks_in};
+ghost use Rattle.sst_bbt_spec.specs.Way.{IndexedBlock};
 ghost use Rattle.sst_cli.specs.Words as line;
+ghost use Rattle.sst_cli.specs.Words.{WriteLine};
 ghost use Rattle.sst_cli.specs.Written.{Fits};
 ghost use Rattle.sst_cli.specs.declared.bbt_fault.BbtFault.{BbtFault};
 ghost use Rattle.sst_cli.specs.declared.refusal.Refusal.{Refusal};
 
 use crate::call_command::calls;
 use crate::printing::print;
-use crate::words::{calls_name, out_name};
+use crate::words::{calls_name, write_line};
 use crate::write_command::write;
 use sst_device::{Folder, Intake, Sink};
 use std::alloc::Global;
@@ -55,7 +56,7 @@ const USAGE: &str = "usage\n";
 ///
 /// There are two commands, and neither OUT nor FILE is empty:
 ///
-/// - `write block OUT`: the input is a list of entry lines; OUT is begun, and holds the block-based file of the list at
+/// - `write block OUT`, perhaps with the option `block=N`: the input is a list of entry lines; OUT is begun, and holds the block-based file of the list at
 ///   the end. No line after the first that is refused is looked at.
 /// - `calls FILE`: the input is a list of call lines; each is answered from the list that FILE stands for, in order, as
 ///   from one position. The whole input is read and checked before FILE is opened. No file changes. Where a separator in
@@ -103,16 +104,16 @@ pub fn run<F: Folder, I: Intake, O: Sink>(
         → (files.new ≡ files.old) × (input.new ≡ input.old) }
 
     // The write clause of the headline: each list that fits is written, from the text of its entries.
-    ensures headline_write { (name : List ℕ) (entries : List Entry) → line.out_name (map string_bytes words.now) ≡ Some name
+    ensures headline_write { (write : WriteLine) (entries : List Entry) → line.write_line (map string_bytes words.now) ≡ Some write
         → Fits entries → AreBytes entries → I.left input.old ≡ Some (lines_text entries)
-        → IsFault result ⊎ Wrote result name entries (F.held files.old) (F.held files.new) (I.left input.new)
+        → IsFault result ⊎ Wrote result write entries (F.held files.old) (F.held files.new) (I.left input.new)
         (O.written out.old) (O.written out.new) }
 
     // The same for each text that says a list, in whatever spelling.
-    ensures written { (name text : List ℕ) (entries : List Entry)
-        → line.out_name (map string_bytes words.now) ≡ Some name
+    ensures written { (write : WriteLine) (text : List ℕ) (entries : List Entry)
+        → line.write_line (map string_bytes words.now) ≡ Some write
         → I.left input.old ≡ Some text → reading.read_input text ≡ Ok entries
-        → IsFault result ⊎ Wrote result name entries (F.held files.old) (F.held files.new) (I.left input.new)
+        → IsFault result ⊎ Wrote result write entries (F.held files.old) (F.held files.new) (I.left input.new)
         (O.written out.old) (O.written out.new) }
 
     // An input of a `write` that is refused: its whole text is printed.
@@ -140,18 +141,18 @@ pub fn run<F: Folder, I: Intake, O: Sink>(
 
     // Each file that opens, whatever its separators, is answered by the way of its blocks: from the block to which the
     // index leads. Where the separators separate, these are the answers of the list.
-    ensures answered { (name file text : List ℕ) (entries : List Entry) (opens : Opens file entries) (calls : List Call)
+    ensures answered { (name file text : List ℕ) (blocks : List IndexedBlock) (opens : Opens file blocks) (calls : List Call)
         → line.calls_name (map string_bytes words.now) ≡ Some name
         → file_of (F.held files.old) name ≡ Some file
         → I.left input.old ≡ Some text → reading.read_calls text ≡ Ok calls
-        → IsFault result ⊎ AnsweredByWay result (blocks_in file entries opens) calls (F.held files.old)
+        → IsFault result ⊎ AnsweredByWay result blocks calls (F.held files.old)
         (F.held files.new) (I.left input.new) (O.written out.old) (O.written out.new) }
 
     // A file that doesn't open: the first thing that is wrong with it is printed, and the file shows it.
     ensures damaged { (name file text : List ℕ) (calls : List Call)
         → line.calls_name (map string_bytes words.now) ≡ Some name
         → file_of (F.held files.old) name ≡ Some file → IsBytes file
-        → ((entries : List Entry) → Opens file entries → ⊥)
+        → ((blocks : List IndexedBlock) → Opens file blocks → ⊥)
         → I.left input.old ≡ Some text → reading.read_calls text ≡ Ok calls
         → IsFault result ⊎ IsDamaged result file (O.written out.old) (O.written out.new) }
 
@@ -173,9 +174,9 @@ pub fn run<F: Folder, I: Intake, O: Sink>(
     ensures input_only { result ≡ Status.Input → (text : List ℕ) → I.left input.old ≡ Some text
         → IsRefusedInput (map string_bytes words.now) text }
     ensures done_only { result ≡ Status.Done → (name file : List ℕ) → line.calls_name (map string_bytes words.now) ≡ Some name
-        → file_of (F.held files.old) name ≡ Some file → (entries : List Entry) × Opens file entries }
+        → file_of (F.held files.old) name ≡ Some file → (blocks : List IndexedBlock) × Opens file blocks }
     ensures file_only { result ≡ Status.File → (name : List ℕ) × (line.calls_name (map string_bytes words.now) ≡ Some name)
-        × ((file : List ℕ) → file_of (F.held files.old) name ≡ Some file → (fault : BbtFault) × (open_read file ≡ Err fault)) }
+        × ((file : List ℕ) → file_of (F.held files.old) name ≡ Some file → (fault : BbtFault) × (blocks_read file ≡ Err fault)) }
     ensures never { result ≢ Status.Exhausted }
     ensures printed { (text : List ℕ)
         × IsTextFor (map string_bytes words.now) (F.held files.old) (I.left input.old) (line.out_name (map string_bytes words.now)) text
@@ -190,8 +191,8 @@ pub fn run<F: Folder, I: Intake, O: Sink>(
     ensures kept { (name : List ℕ) → line.calls_name (map string_bytes words.now) ≡ Some name
         → F.held files.new ≡ F.held files.old }
 {
-    match out_name(words) {
-        Some(name) => write(alloc, name, files, input, out),
+    match write_line(words) {
+        Some(line) => write(alloc, line, files, input, out),
         None => match calls_name(words) {
             Some(name) => calls(alloc, name, files, input, out),
             None => print(out, USAGE.as_bytes(), Status::Usage),

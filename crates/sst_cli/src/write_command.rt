@@ -13,20 +13,21 @@ use crate::printing::{print, print_refusal, status_of};
 use crate::produce::produce;
 use crate::program::Status;
 use crate::reading::InputStop;
+use crate::words::WriteLine;
 use sst_device::{Folder, Intake, Sink};
 use std::alloc::Global;
 
 /// Writes the file of the entries of the input, and prints how many there are or why the input is refused.
 pub fn write<F: Folder, I: Intake, O: Sink>(
     alloc: Global,
-    name: &str,
+    line: WriteLine<'_>,
     files: &mut F,
     input: &mut I,
     out: &mut O,
 ) -> Status
     ensures written { (text : List ℕ) (entries : List Entry) → I.left input.old ≡ Some text
         → read_input text ≡ Ok entries
-        → IsFault result ⊎ Wrote result name.now entries (F.held files.old) (F.held files.new) (I.left input.new)
+        → IsFault result ⊎ Wrote result (record { name = line.name.now; options = line.options }) entries (F.held files.old) (F.held files.new) (I.left input.new)
         (O.written out.old) (O.written out.new) }
     ensures refused { (text : List ℕ) (refusal : Refusal) → I.left input.old ≡ Some text → read_input text ≡ Err refusal
         → IsFault result ⊎ ((result ≡ Status.Input)
@@ -38,9 +39,9 @@ pub fn write<F: Folder, I: Intake, O: Sink>(
         → (refusal : Refusal) × (read_input text ≡ Err refusal) }
     ensures device { result ≡ Status.Device → Rose (F.faults files.old) (F.faults files.new)
         ⊎ (Rose (I.faults input.old) (I.faults input.new) ⊎ Rose (O.faults out.old) (O.faults out.new)) }
-    ensures others { ChangesOnly name.now (F.held files.old) (F.held files.new) }
+    ensures others { ChangesOnly line.name.now (F.held files.old) (F.held files.new) }
 {
-    match produce(alloc, name, files, input) {
+    match produce(alloc, line, files, input) {
         Ok(count) => print_done(alloc, out, count),
         Err(InputStop::Refused(refusal)) => print_refusal(alloc, out, refusal),
         Err(InputStop::Device(stop)) => status_of(stop),

@@ -8,8 +8,8 @@ ghost use Rattle.sst_cli.specs.TableBlocks.{blocks_of};
 ghost use Rattle.sst_bbt_spec.specs.Way.{is_separator_before, seek_tag, seek_for_prev_tag, way_seek, way_get, way_seek_for_prev};
 
 use crate::bbt_reader::BbtReader;
+use crate::block_search::{blocks_before_seek, blocks_before_seek_for_prev};
 use crate::list_search::{below, up_to};
-use crate::separators::{is_before_seek, is_before_seek_for_prev};
 use sst_key::{EntryView, Reply};
 use std::marker::Model;
 
@@ -71,51 +71,41 @@ impl BbtReader {
         }
     }
 
-    /// The separator is before the target of a Seek or a Get. With no data block it may say so or not.
-    fn is_before_seek(&self, user: &[u8], seq: u64) -> bool
-        ensures { 0 < length self.now.entries
-            → result ≡ is_separator_before user.now (seek_tag seq) self.now.separator }
-    {
-        if self.entries.is_empty() {
-            true
-        } else {
-            is_before_seek(self.separator.as_slice(), user, seq)
+    /// Where the entries of a block begin. `i` is below the number of blocks.
+    fn start_of(&self, i: usize) -> usize {
+        match i.checked_sub(1) {
+            None => 0,
+            Some(before) => self.ends[before].end,
         }
     }
 
-    /// The separator is before the target of a SeekForPrev. With no data block it may say so or not.
-    fn is_before_seek_for_prev(&self, user: &[u8], seq: u64) -> bool
-        ensures { 0 < length self.now.entries
-            → result ≡ is_separator_before user.now (seek_for_prev_tag seq) self.now.separator }
-    {
-        if self.entries.is_empty() {
-            true
-        } else {
-            is_before_seek_for_prev(self.separator.as_slice(), user, seq)
-        }
-    }
-
-    /// Where Seek lands: the separator leads to the block or past it, and in the block its entries are halved.
+    /// Where Seek lands: the separators lead to a block, in which its entries are halved, or past all blocks.
     fn seek_place(&self, user: &[u8], seq: u64) -> Option<usize>
         ensures place { result ≡ way_seek (blocks_of self.now) user.now seq }
         ensures belongs { Belongs self.now.entries result }
     {
-        if self.is_before_seek(user, seq) {
-            None
+        let i = blocks_before_seek(&self.ends, user, seq);
+        if i < self.ends.len() {
+            let start = self.start_of(i);
+            let block = &self.entries[start..self.ends[i].end];
+            self.place_in(start + below(block, user, seq))
         } else {
-            self.place_in(below(&self.entries, user, seq))
+            None
         }
     }
 
-    /// Where SeekForPrev lands: past the block it is the last entry.
+    /// Where SeekForPrev lands: past all blocks it is the last entry.
     fn seek_for_prev_place(&self, user: &[u8], seq: u64) -> Option<usize>
         ensures place { result ≡ way_seek_for_prev (blocks_of self.now) user.now seq }
         ensures belongs { Belongs self.now.entries result }
     {
-        if self.is_before_seek_for_prev(user, seq) {
-            self.entries.len().checked_sub(1)
+        let i = blocks_before_seek_for_prev(&self.ends, user, seq);
+        if i < self.ends.len() {
+            let start = self.start_of(i);
+            let block = &self.entries[start..self.ends[i].end];
+            (start + up_to(block, user, seq)).checked_sub(1)
         } else {
-            up_to(&self.entries, user, seq).checked_sub(1)
+            self.entries.len().checked_sub(1)
         }
     }
 

@@ -2,10 +2,16 @@
 ghost use Rattle.sst_cli.specs.After.{IsInUse};
 
 use super::BbtWriter;
+use crate::bbt_options::BbtOptions;
 use sst_key::{EntryView, Kind, WriteFault};
 use sst_num::Refused;
 use std::alloc::Global;
 use std::test::Fail;
+
+/// The options of a file whose data blocks end late.
+const OPTIONS: BbtOptions = BbtOptions {
+    block_size: 16_777_216,
+};
 
 /// The length of the values that are lent again and again: the most that a value has.
 const LENGTH: usize = 16_777_216;
