@@ -21,12 +21,12 @@ cut_by w entries = cut_of w.options.block_size entries
 pub record After (w : BbtWriter) (entries : List Entry) (bytes : List ℕ) : Type 0 where
   pub sound : w.failed ≡ false
   -- the block that isn't ended
-  pub block : builder.Holds w.block Entries 16 (rows_of (cut_by w entries).open)
-  pub rows : w.rows ≡ length (cut_by w entries).open
+  pub block : builder.Holds w.block Entries 16 (rows_of (cut_by w entries).current)
+  pub rows : w.rows ≡ length (cut_by w entries).current
   -- the index and the number of those that are, which were appended
   pub index : builder.Holds w.index (Index false false) 1 (index_rows 0 (cut_by w entries).ended)
   pub blocks : w.blocks ≡ length (cut_by w entries).ended
-  pub data : w.data ≡ length bytes
+  pub data_size : w.data_size ≡ length bytes
   pub appended : bytes ≡ data_part (cut_by w entries).ended
   -- the entries
   pub last : w.last.items ≡ builder.last_key [] (rows_of entries)

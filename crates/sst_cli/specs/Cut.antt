@@ -15,18 +15,18 @@ data_block entries = block_of 16 (rows_of entries)
 -- the blocks that were ended, and the entries of the one that wasn't
 pub record Blocks : Type 0 where
   pub ended : List (List Entry)
-  pub open : List Entry
+  pub current : List Entry
 
--- the open block has an entry, and so many bytes or more
+-- the block has an entry, and so many bytes or more
 abbrev pub is_full : ℕ → List Entry → Bool
-is_full limit open = nat_lt 0 (length open) && nat_le limit (length (data_block open))
+is_full limit block = nat_lt 0 (length block) && nat_le limit (length (data_block block))
 
 -- one entry more
 abbrev pub add_entry : ℕ → Blocks → Entry → Blocks
 add_entry limit blocks e =
-    if is_full limit blocks.open
-    then record { ended = blocks.ended ++ blocks.open ∷ []; open = e ∷ [] }
-    else record { ended = blocks.ended; open = blocks.open ++ e ∷ [] }
+    if is_full limit blocks.current
+    then record { ended = blocks.ended ++ blocks.current ∷ []; current = e ∷ [] }
+    else record { ended = blocks.ended; current = blocks.current ++ e ∷ [] }
 
 -- a list of entries, one by one
 abbrev pub cut_from : ℕ → Blocks → List Entry → Blocks
@@ -34,11 +34,11 @@ cut_from limit blocks [] = blocks
 cut_from limit blocks (e ∷ rest) = cut_from limit (add_entry limit blocks e) rest
 
 unfoldable pub cut_of : ℕ → List Entry → Blocks
-cut_of limit entries = cut_from limit (record { ended = []; open = [] }) entries
+cut_of limit entries = cut_from limit (record { ended = []; current = [] }) entries
 
--- the open block is ended with the list, if it has an entry
+-- the current block is ended with the list, if it has an entry
 abbrev pub ended_all : Blocks → List (List Entry)
-ended_all blocks = blocks.ended ++ (if nat_lt 0 (length blocks.open) then blocks.open ∷ [] else [])
+ended_all blocks = blocks.ended ++ (if nat_lt 0 (length blocks.current) then blocks.current ∷ [] else [])
 
 -- the data blocks of a list
 unfoldable pub blocks_for : ℕ → List Entry → List (List Entry)

@@ -18,7 +18,7 @@ use Rattle.sst_meta.specs.Names as names
 use Rattle.sst_bbt_spec.specs.Rows.{HasSeq, rows_of}
 use Rattle.sst_bbt_spec.specs.BlockBased.{BlockBased}
 use Rattle.sst_cli.specs.Cut.{data_block, blocks_for}
-use Rattle.sst_meta.specs.PropertyNames.{data_size, filter_size, format_version, index_size, num_data_blocks, num_entries, raw_key_size, raw_value_size}
+use Rattle.sst_meta.specs.PropertyNames as property_names
 use Rattle.sst_meta.specs.declared.name.Name.TheVariants as name
 use Rattle.sst_cli.specs.declared.bbt_options.BbtOptions.{BbtOptions}
 use Rattle.sst_cli.specs.declared.properties.Sizes.{Sizes}
@@ -73,24 +73,24 @@ abbrev pub properties : Sizes → List Row
 properties sizes =
     property (names.name_bytes name.IndexType) (fixed 4 0)
     ∷ property names.comparator names.bytewise
-    ∷ property data_size (varint sizes.data)
-    ∷ property filter_size (varint 0)
-    ∷ property format_version (varint 2)
+    ∷ property property_names.data_size (varint sizes.data_size)
+    ∷ property property_names.filter_size (varint 0)
+    ∷ property property_names.format_version (varint 2)
     ∷ property (names.name_bytes name.IndexKeyIsUserKey) (varint 0)
-    ∷ property index_size (varint sizes.index)
+    ∷ property property_names.index_size (varint sizes.index_size)
     ∷ property (names.name_bytes name.IndexValueIsDeltaEncoded) (varint 0)
-    ∷ property num_data_blocks (varint sizes.blocks)
-    ∷ property num_entries (varint sizes.entries)
-    ∷ property raw_key_size (varint sizes.keys)
-    ∷ property raw_value_size (varint sizes.values)
+    ∷ property property_names.num_data_blocks (varint sizes.blocks)
+    ∷ property property_names.num_entries (varint sizes.entries)
+    ∷ property property_names.raw_key_size (varint sizes.keys)
+    ∷ property property_names.raw_value_size (varint sizes.values)
     ∷ []
 
 -- the numbers of a list that was cut into these blocks
 abbrev pub sizes_of : List (List Entry) → List Entry → Sizes
 sizes_of blocks entries =
     record {
-      data = length (data_part blocks);
-      index = stored_length (index_block blocks);
+      data_size = length (data_part blocks);
+      index_size = stored_length (index_block blocks);
       blocks = length blocks;
       entries = length entries;
       keys = key_bytes entries;
@@ -103,7 +103,7 @@ properties_block sizes = block_of 65536 (properties sizes)
 
 -- where the properties block stands: behind the stored data blocks and the stored index block
 abbrev pub properties_handle : Sizes → Handle
-properties_handle sizes = record { offset = sizes.data + sizes.index; size = length (properties_block sizes) }
+properties_handle sizes = record { offset = sizes.data_size + sizes.index_size; size = length (properties_block sizes) }
 
 -- the metaindex block: one row, which leads to the properties
 abbrev pub metaindex_block : Sizes → List ℕ
@@ -113,7 +113,7 @@ metaindex_block sizes = block_of 1 (property (names.name_bytes name.Properties) 
 abbrev pub metaindex_handle : Sizes → Handle
 metaindex_handle sizes =
     record {
-      offset = sizes.data + sizes.index + stored_length (properties_block sizes);
+      offset = sizes.data_size + sizes.index_size + stored_length (properties_block sizes);
       size = length (metaindex_block sizes);
     }
 

@@ -65,7 +65,7 @@ pub struct BbtWriter {
     /// How many these are.
     blocks: u64,
     /// How many bytes they take with their trailers.
-    data: u64,
+    data_size: u64,
     /// The internal key of the last entry.
     last: Vec<u8>,
     /// The internal key of the entry that is being added.
@@ -113,7 +113,7 @@ impl BbtWriter {
             rows: 0,
             index: index_block(alloc)?,
             blocks: 0,
-            data: 0,
+            data_size: 0,
             last: Vec::new(alloc),
             key: Vec::new(alloc),
             count: 0,
@@ -196,8 +196,8 @@ impl BbtWriter {
     fn put_rest(self, out: &mut Vec<u8>) -> Result<u64, Memory> {
         let index = self.index.finish()?;
         let sizes = Sizes {
-            data: self.data,
-            index: index.len() as u64 + TRAILER_LENGTH,
+            data_size: self.data_size,
+            index_size: index.len() as u64 + TRAILER_LENGTH,
             blocks: self.blocks,
             entries: self.count,
             keys: self.keys,
@@ -226,14 +226,14 @@ impl BbtWriter {
         put_frame(out, block.as_slice())?;
         let mut value = Vec::new(self.alloc);
         let handle = Handle {
-            offset: self.data,
+            offset: self.data_size,
             size,
         };
         put_handle(&mut value, handle)?;
         self.index.add(&self.last, &value, &[])?;
         self.rows = 0;
         self.blocks += 1;
-        self.data += size + TRAILER_LENGTH;
+        self.data_size += size + TRAILER_LENGTH;
         Ok(())
     }
 

@@ -19,9 +19,9 @@ const VERSION: u64 = 2;
 #[derive(Clone, Copy, Debug, PartialEq, Eq)]
 pub struct Sizes {
     /// The bytes of the data blocks with their trailers.
-    pub data: u64,
+    pub data_size: u64,
     /// The bytes of the index block with its trailer.
-    pub index: u64,
+    pub index_size: u64,
     /// How many data blocks there are.
     pub blocks: u64,
     /// How many entries there are.
@@ -56,11 +56,11 @@ pub fn properties_block(alloc: Global, sizes: Sizes) -> Result<Bytes, Memory>
 {
     let mut props = PropsBuilder::new(alloc)?;
     set_kind(alloc, &mut props)?;
-    set_number(alloc, &mut props, names::DATA_SIZE, sizes.data)?;
+    set_number(alloc, &mut props, names::DATA_SIZE, sizes.data_size)?;
     set_number(alloc, &mut props, names::FILTER_SIZE, 0)?;
     set_number(alloc, &mut props, names::FORMAT_VERSION, VERSION)?;
     set_number(alloc, &mut props, names::INDEX_KEY_IS_USER_KEY, 0)?;
-    set_number(alloc, &mut props, names::INDEX_SIZE, sizes.index)?;
+    set_number(alloc, &mut props, names::INDEX_SIZE, sizes.index_size)?;
     set_number(alloc, &mut props, names::INDEX_VALUE_IS_DELTA_ENCODED, 0)?;
     set_number(alloc, &mut props, names::NUM_DATA_BLOCKS, sizes.blocks)?;
     set_number(alloc, &mut props, names::NUM_ENTRIES, sizes.entries)?;

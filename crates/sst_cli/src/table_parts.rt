@@ -73,13 +73,13 @@ pub fn put_end(
     sizes: Sizes,
 ) -> Result<(), Memory> {
     let index_handle = Handle {
-        offset: sizes.data,
+        offset: sizes.data_size,
         size: index.len() as u64,
     };
     put_frame(out, index)?;
     let block = properties_block(alloc, sizes)?;
     let properties = Handle {
-        offset: sizes.data + sizes.index,
+        offset: sizes.data_size + sizes.index_size,
         size: block.len() as u64,
     };
     put_frame(out, block.as_slice())?;
