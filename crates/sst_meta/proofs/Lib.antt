@@ -1,9 +1,14 @@
+pub mod BlocksRead
 pub mod FileEnds
 pub mod FooterKinds
+pub mod FooterLaws
 pub mod FooterReads
 pub mod Footers
+pub mod FootersRead
 pub mod HandlesRead
 pub mod Named
 pub mod OneRestart
 pub mod PairsRead
+pub mod ReadSteps
 pub mod Setting
+pub mod ValuesRead
