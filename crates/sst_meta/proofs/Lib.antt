@@ -6,9 +6,13 @@ pub mod FooterReads
 pub mod Footers
 pub mod FootersRead
 pub mod HandlesRead
+pub mod LoadsRead
 pub mod Named
 pub mod OneRestart
 pub mod PairsRead
+pub mod PropsRules
+pub mod PropsShown
 pub mod ReadSteps
 pub mod Setting
+pub mod ValueRules
 pub mod ValuesRead
