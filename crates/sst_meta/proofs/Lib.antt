@@ -8,11 +8,13 @@ pub mod FootersRead
 pub mod HandlesRead
 pub mod LoadsRead
 pub mod Named
+pub mod NoMetaFault
 pub mod OneRestart
 pub mod PairsRead
 pub mod PropsRules
 pub mod PropsShown
 pub mod ReadSteps
+pub mod SaidOnce
 pub mod Setting
 pub mod ValueRules
 pub mod ValuesRead

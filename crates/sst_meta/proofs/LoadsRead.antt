@@ -1,5 +1,5 @@
 -- What is loaded of a file is what it says of itself, and a fault is one that it shows.
-use Rattle.std.proofs.Common.{◌≡◌, ℕ, ◌-◌, ◌^◌, ◌<◌, nat_lt, true, false, List, length, Option, None, Some, Result, Ok, Err, refl, sym, ap, subst, ◌∙◌, inl, inr, arith}
+use Rattle.std.proofs.Common.{◌≡◌, ℕ, ◌^◌, ◌<◌, nat_lt, false, List, length, Option, None, Some, Result, Ok, Err, refl, sym, ap, subst, ◌∙◌, inl, inr, arith}
 use borrow.Author.Tests.{ltb-false}
 use Rattle.std.specs.Prelude.{IfSome}
 use Rattle.std.specs.Option.{is_some}
@@ -17,7 +17,6 @@ use Rattle.sst_meta.specs.Meta.{HasPairs, LeadsToProps, AreGood, Meta}
 use Rattle.sst_meta.specs.MetaFaults.{HasNames, PropsLead, ShowsMeta}
 use Rattle.sst_meta.specs.Names.{name_bytes, range_tombstones}
 use Rattle.sst_meta.specs.Pairs.{value_of}
-use Rattle.sst_meta.specs.declared.footer.Footer.{Footer}
 use Rattle.sst_meta.specs.declared.loading.Loaded.{Loaded}
 use Rattle.sst_meta.specs.declared.name.Name.TheVariants as name
 use Rattle.sst_meta.specs.declared.meta_fault.MetaFault.{MetaFault}
@@ -131,7 +130,7 @@ load-complete file loaded m =
     let read : end_read (last_bytes 53 file) ≡ Ok footer = (footer_read-leads file end footer.meta footer.index m.leads).1 ∙ ap Ok (sym m.footer) in
     let names = block_at-rows meta.Frame (meta.Block footer.meta) Names file end footer.meta loaded.names tt (pairs-rows file end footer.meta loaded.names m.names) in
     let props = read-none file end loaded.names loaded.props m.no_tombstones
-        (props-complete file end (value_of (name_bytes name.Properties) loaded.names) loaded.props (omega arith) m.props m.good) in
+    (props-complete file end (value_of (name_bytes name.Properties) loaded.names) loaded.props (omega arith) m.props m.good) in
     rw (lt-ltb (length file) (2 ^ 40) m.limited)
     (ap (λ r. then_open r (names_read file end)) read
     ∙ ap (λ r. then_open r (λ names. then_open (props_read file end names) (λ props. Ok (as_loaded file footer names props)))) names

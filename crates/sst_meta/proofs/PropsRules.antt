@@ -1,24 +1,16 @@
 -- The properties have no fault exactly where those that are looked at are good, and a fault of them is one that the file
 -- shows.
-use Rattle.std.proofs.Common.{◌≡◌, ◌⊎◌, ℕ, ◌^◌, ◌<◌, nat_lt, if◌then◌else◌, true, false, List, Option, None, Some, refl, ap, subst, ◌∙◌, inl, inr, arith}
-use Rattle.std.specs.Prelude.{IfSome, bytes_eq}
-use Rattle.std.specs.Option.{is_some}
-use Rattle.std.proofs.lemmas.Bool.{both_ways, lt-ltb, ltb-true}
-use Rattle.std.proofs.lemmas.Slice.Eq.{bytes_eq-Decides}
-use Rattle.sst_num.specs.Spelling.{fixed, varint}
+use Rattle.std.proofs.Common.{◌≡◌, ℕ, if◌then◌else◌, false, List, Option, None, Some, refl}
 use Rattle.sst_block.specs.Block.{Row}
 use Rattle.sst_device.proofs.Choices.{by_test}
-use Rattle.sst_meta.specs.LoadReading.{fixed_in, varint_in, is_below, comparator_fault, index_type_by, index_type_fault, is_valued, is_marked, global_fault, global_in, external_fault, flag_fault, is_flag, form_fault, or_else, props_fault}
+use Rattle.sst_meta.specs.LoadReading.{comparator_fault, index_type_fault, is_valued, is_marked, global_fault, external_fault, flag_fault, is_flag, props_fault}
 use Rattle.sst_meta.specs.Meta.{AreGood}
-use Rattle.sst_meta.specs.MetaFaults.{HasProps, ShowsMeta}
-use Rattle.sst_meta.specs.Names.{name_bytes, comparator, bytewise}
+use Rattle.sst_meta.specs.Names.{name_bytes, comparator}
 use Rattle.sst_meta.specs.Pairs.{value_of}
-use Rattle.sst_meta.specs.declared.name.Name.{Name}
 use Rattle.sst_meta.specs.declared.name.Name.TheVariants as name
 use Rattle.sst_meta.specs.declared.meta_fault.MetaFault.{MetaFault}
 use Rattle.sst_meta.specs.declared.meta_fault.MetaFault.TheVariants as meta
-use Rattle.sst_meta.proofs.ValuesRead.{fixed_in-fixed, fixed_in-found, varint_in-varint, varint_in-found}
-use Rattle.sst_meta.proofs.ValueRules.{or_else-none, or_else-some, is_valued-same, is_valued-found, comparator-good, comparator-none, index_type-good, index_type-none, global-good, external-good, external-none, flag-good, flag-none, flag-set}
+use Rattle.sst_meta.proofs.ValueRules.{or_else-none, comparator-good, comparator-none, index_type-good, index_type-none, global-good, external-good, external-none, flag-good, flag-none}
 
 -- a form that isn't read yet, by the values
 abbrev forms : Option (List ℕ) → Option (List ℕ) → Option (List ℕ) → Option (List ℕ) → Option MetaFault
@@ -59,7 +51,7 @@ good-no_fault props good =
     let f = flag-good name.IndexValueIsDeltaEncoded (value_of (name_bytes name.IndexValueIsDeltaEncoded) props) good.whole_handles in
     let g = global-good (value_of (name_bytes name.ExternalVersion) props) (value_of (name_bytes name.GlobalSequence) props) c.1 in
     let h = forms-none (value_of (name_bytes name.IndexType) props) (value_of (name_bytes name.IndexKeyIsUserKey) props)
-        (value_of (name_bytes name.IndexValueIsDeltaEncoded) props) (value_of (name_bytes name.ExternalVersion) props) b.1 d.1 f.1 c.1 in
+    (value_of (name_bytes name.IndexValueIsDeltaEncoded) props) (value_of (name_bytes name.ExternalVersion) props) b.1 d.1 f.1 c.1 in
     rw (a, b.0, g, c.0, d.0, f.0) h
 
 -- properties without a fault are good
@@ -73,7 +65,7 @@ no_fault-good props e =
     let f = or_else-none (flag_fault name.IndexKeyIsUserKey (value_of (name_bytes name.IndexKeyIsUserKey) props)) _ d.1 in
     let g = or_else-none (flag_fault name.IndexValueIsDeltaEncoded (value_of (name_bytes name.IndexValueIsDeltaEncoded) props)) _ f.1 in
     let plain = forms-plain (value_of (name_bytes name.IndexType) props) (value_of (name_bytes name.IndexKeyIsUserKey) props)
-        (value_of (name_bytes name.IndexValueIsDeltaEncoded) props) (value_of (name_bytes name.ExternalVersion) props) g.1 in
+    (value_of (name_bytes name.IndexValueIsDeltaEncoded) props) (value_of (name_bytes name.ExternalVersion) props) g.1 in
     record {
       comparator_is = comparator-none (value_of comparator props) a.0;
       index_type = index_type-none (value_of (name_bytes name.IndexType) props) b.0 plain.flat;

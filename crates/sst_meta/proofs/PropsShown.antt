@@ -1,12 +1,12 @@
 -- A fault of the properties is one that the file shows.
-use Rattle.std.proofs.Common.{◌≡◌, ◌⊎◌, ℕ, ◌^◌, ◌<◌, nat_lt, true, false, List, Option, None, Some, refl, ap, subst, ◌∙◌, inl, inr, arith}
+use Rattle.std.proofs.Common.{◌≡◌, ℕ, ◌^◌, ◌<◌, nat_lt, false, List, Option, None, Some, refl, ap, subst, ◌∙◌, inl, inr, arith}
 use Rattle.std.specs.Prelude.{bytes_eq}
 use Rattle.std.proofs.lemmas.Bool.{both_ways, lt-ltb, ltb-true}
 use Rattle.std.proofs.lemmas.Slice.Eq.{bytes_eq-Decides}
 use Rattle.sst_num.specs.Spelling.{fixed, varint}
 use Rattle.sst_block.specs.Block.{Row}
 use Rattle.sst_device.proofs.Choices.{by_test}
-use Rattle.sst_meta.specs.LoadReading.{fixed_in, varint_in, is_number, is_below, comparator_fault, index_type_by, index_type_fault, is_valued, is_marked, global_fault, global_in, external_fault, flag_fault, is_flag, form_fault, or_else, props_fault}
+use Rattle.sst_meta.specs.LoadReading.{fixed_in, varint_in, is_below, comparator_fault, index_type_by, index_type_fault, is_valued, global_fault, global_in, external_fault, flag_fault, is_flag, form_fault, props_fault}
 use Rattle.sst_meta.specs.MetaFaults.{HasProps, IsNotYet, ShowsMeta}
 use Rattle.sst_meta.specs.Names.{name_bytes, comparator, bytewise}
 use Rattle.sst_meta.specs.Pairs.{value_of}
@@ -57,10 +57,16 @@ global_in-shown file props (Some value) fault has marked at e =
     by_test (is_below (2 ^ 56) (fixed_in 8 value)) None (Some (meta.BadProperty name.GlobalSequence)) (Some fault) e (λ _ e. cc)
     (λ wrong e.
     let same : meta.BadProperty name.GlobalSequence ≡ fault = cc in
-    subst (λ f. ShowsMeta file f) same
-    (props, value, has, marked, at, λ sequence fits spelled.
-    let read = ap (fixed_in 8) spelled ∙ fixed_in-fixed 8 sequence (omega (arith, fits)) in
-    both_ways _ wrong (ap (is_below (2 ^ 56)) read ∙ lt-ltb sequence (2 ^ 56) fits)))
+    subst (λ f. ShowsMeta file f) same (
+      props,
+      value,
+      has,
+      marked,
+      at,
+      λ sequence fits spelled.
+          let read = ap (fixed_in 8) spelled ∙ fixed_in-fixed 8 sequence (omega (arith, fits)) in
+          both_ways _ wrong (ap (is_below (2 ^ 56)) read ∙ lt-ltb sequence (2 ^ 56) fits),
+    ))
 
 global-shown : (file : List ℕ) (props : List Row) (external o : Option (List ℕ)) (fault : MetaFault) → HasProps file props
     → value_of (name_bytes name.ExternalVersion) props ≡ external → value_of (name_bytes name.GlobalSequence) props ≡ o

@@ -1,12 +1,12 @@
 -- The values of the properties that are looked at: which are good, and which have a fault.
-use Rattle.std.proofs.Common.{◌≡◌, ◌≢◌, ◌⊎◌, ℕ, zero, suc, ◌^◌, ◌<◌, ◌≤◌, ◌==◌, nat_lt, Bool, true, false, not, List, Option, None, Some, refl, sym, ap, subst, ◌∙◌, inl, inr, arith}
+use Rattle.std.proofs.Common.{◌≡◌, ◌≢◌, ◌⊎◌, ℕ, zero, suc, ◌^◌, ◌<◌, ◌≤◌, ◌==◌, nat_lt, true, false, List, Option, None, Some, refl, ap, ◌∙◌, inl, inr, arith}
 use borrow.Author.Tests.{ltb-false}
 use Rattle.std.specs.Prelude.{IfSome, bytes_eq}
 use Rattle.std.proofs.lemmas.Bool.{eqb-true, eqb-false, eq-eqb, ne_eqb, both_ways}
 use Rattle.std.proofs.lemmas.Slice.Eq.{bytes_eq-Decides}
 use Rattle.sst_num.specs.Spelling.{fixed, varint}
 use Rattle.sst_device.proofs.Choices.{by_test}
-use Rattle.sst_meta.specs.LoadReading.{fixed_in, varint_in, is_number, comparator_fault, index_type_by, index_type_fault, is_valued, is_marked, global_fault, global_in, external_fault, flag_fault, is_flag, or_else}
+use Rattle.sst_meta.specs.LoadReading.{fixed_in, varint_in, is_number, comparator_fault, index_type_by, index_type_fault, is_valued, global_fault, external_fault, flag_fault, is_flag, or_else}
 use Rattle.sst_meta.specs.Names.{bytewise}
 use Rattle.sst_meta.specs.declared.name.Name.{Name}
 use Rattle.sst_meta.specs.declared.meta_fault.MetaFault.{MetaFault}
