@@ -4,7 +4,7 @@
 //! table: how many entries it has, how they are ordered, what its format is. The metaindex, which says where the other
 //! meta blocks stand, is such a block too. The footer, which ends the file, says where the metaindex and the index
 //! stand, and of which format and version the file is. This crate stands on the blocks of `sst_block`; the readers and
-//! writers of tables stand on it. What is looked up in a file is to come.
+//! writers of tables stand on it.
 //!
 //! # Layout of a footer
 //!
@@ -71,6 +71,12 @@
 //! as `check_block` does. It has the pairs of the block, all of them and in order; so a block that was made of some pairs
 //! is read as these. [`Props::get`] answers the value of a name exactly where there is such a name. Each name and value
 //! is copied once, when the block is read; no later call takes memory.
+//!
+//! [`load`] answers what a file says of itself, exactly, or the first thing that is wrong with it (`load_read`,
+//! specs/LoadReading.antt), or that the device failed or memory ran out. What a file says is told by its footer, its
+//! blocks and their rows, and never by reading (`Meta`, specs/Meta.antt); what is loaded is exactly that
+//! ([`a_file_loads_as_it_says`], [`a_footer_is_read`]). A fault is one that the file shows (`ShowsMeta`,
+//! specs/MetaFaults.antt), and a file that loads shows none ([`a_meta_fault_is_shown`]).
 #![tactic(auto)]
 
 mod builder;
@@ -80,6 +86,9 @@ mod footer_laws;
 mod footer_tests;
 mod laws;
 mod loading;
+mod loading_laws;
+#[cfg(test)]
+mod loading_tests;
 mod looked_at;
 mod meta_fault;
 mod name;
@@ -95,6 +104,7 @@ pub use footer::{Footer, format_of, put_footer, read_footer};
 pub use footer_laws::a_footer_reads_back;
 pub use laws::{a_name_has_one_value, properties_have_one_restart};
 pub use loading::{Loaded, load};
+pub use loading_laws::{a_file_loads_as_it_says, a_footer_is_read, a_meta_fault_is_shown};
 pub use meta_fault::MetaFault;
 pub use name::Name;
 pub use props::Props;
