@@ -8,8 +8,8 @@ use Rattle.sst_block.specs.Block.{Row, Block}
 use Rattle.sst_block.proofs.OneReading.{one-list}
 use Rattle.sst_device.specs.Framed.{Framed}
 use Rattle.sst_meta.specs.BlockFooter.{footer_start}
-use Rattle.sst_meta.specs.Meta.{Meta}
 use Rattle.sst_meta.specs.declared.loading.Loaded.{Loaded}
+use Rattle.sst_meta.proofs.LoadsRead.{load-one}
 use Rattle.sst_bbt_spec.specs.Rows.{rows_of}
 use Rattle.sst_bbt_spec.specs.Runs.{LeadsTo, Lead}
 use Rattle.sst_bbt_spec.specs.BlockBased.{BlockBased, Opens}
@@ -47,16 +47,16 @@ lead-one file end (row ∷ rows) (x ∷ a) (y ∷ b) left right =
     let tail = lead-one file end rows a b left.2 right.2 in
     ap (λ (e : IndexedBlock). e ∷ a) head ∙ ap (λ (l : List IndexedBlock). y ∷ l) tail
 
--- where a file says one thing of itself, it opens to one list of blocks
-pub opens-one_if : (file : List ℕ) → ((a b : Loaded) → Meta file a → Meta file b → a ≡ b) → (a b : List IndexedBlock) → Opens file a → Opens file b → a ≡ b
-opens-one_if file one a b left right =
-    let loaded = one left.loaded right.loaded left.meta right.meta in
+-- the index of the file has one list of rows, and so the file opens to one list of blocks
+pub opens-one : (file : List ℕ) (a b : List IndexedBlock) → Opens file a → Opens file b → a ≡ b
+opens-one file a b left right =
+    let loaded = load-one file left.loaded right.loaded left.meta right.meta in
     let handles : left.loaded.footer.index ≡ right.loaded.footer.index = ap (λ (l : Loaded). l.footer.index) loaded in
     let rows = framed-one (Index false false) file (footer_start file) left.loaded.footer.index right.loaded.footer.index left.index_block right.index_block left.index_rows right.index_rows handles left.framed right.framed left.index_is right.index_is in
     let there : Lead file (footer_start file) left.index_rows b = subst (λ (r : List Row). Lead file (footer_start file) r b) (sym rows) right.lead in
     lead-one file (footer_start file) left.index_rows a b left.lead there
 
-pub stands-one_if : (file : List ℕ) → ((a b : Loaded) → Meta file a → Meta file b → a ≡ b) → (a b : List Entry) → BlockBased file a → BlockBased file b → a ≡ b
-stands-one_if file one a b left right =
-    let blocks = opens-one_if file one left.blocks right.blocks left.opens right.opens in
+pub stands-one : (file : List ℕ) (a b : List Entry) → BlockBased file a → BlockBased file b → a ≡ b
+stands-one file a b left right =
+    let blocks = opens-one file left.blocks right.blocks left.opens right.opens in
     sym left.runs.joined_is ∙ ap joined blocks ∙ right.runs.joined_is

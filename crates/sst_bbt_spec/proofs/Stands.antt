@@ -12,7 +12,7 @@ use Rattle.sst_bbt_spec.specs.Runs.{LeadsTo, Lead}
 use Rattle.sst_bbt_spec.specs.BlockBased.{BlockBased, Opens}
 use Rattle.sst_bbt_spec.specs.Way.{IndexedBlock, Separate, joined, way_replies}
 use Rattle.sst_bbt_spec.proofs.EntriesOfRows.{entries-ordered}
-use Rattle.sst_bbt_spec.proofs.SeparatedBlocks.{IsSound, AreSound, sound-seqs, separated}
+use Rattle.sst_bbt_spec.proofs.SeparatedBlocks.{AreSound, sound-seqs, separated}
 use Rattle.sst_bbt_spec.proofs.WayLaws.{replies-same}
 
 -- what an index row leads to is in order
