@@ -4,7 +4,7 @@
 #   bash bench/run.sh [ROUNDS]        5 rounds where no number is given
 #
 # The lists have 350,000, 700,000 and 1,400,000 entries of 16-byte keys and 100-byte values; the last one is near
-# the limit of what a list weighs. In each round every list is written by both programs, one after the other. Of
+# the limit of what a list weighs. Data blocks have 4096 bytes or a little more. In each round every list is written by both programs, one after the other. Of
 # each program and list the least user and system time counts, and the greatest peak memory. What is printed are
 # ratios: they say more than times, of a machine that does other work. Blocks of other bytes than RocksDB's are a
 # failure, status 1, and so is a peak memory of more than four times the file.
@@ -16,6 +16,7 @@ cd "$(dirname "${BASH_SOURCE[0]}")/.." || exit 1
 root=$PWD
 rounds=${1:-5}
 counts='350000 700000 1400000'
+block=4096
 
 skip() {
     printf 'skipped: %s\n' "$1"
@@ -81,18 +82,28 @@ done
 for round in $(seq "$rounds"); do
     for count in $counts; do
         rm -f "$room/ours.sst" "$room/theirs.sst"
-        measured ours "$count" "$ours" write block "$room/ours.sst"
-        measured theirs "$count" "$room/theirs" "$room/theirs.sst"
+        measured ours "$count" "$ours" write block "$room/ours.sst" "block=$block"
+        measured theirs "$count" "$room/theirs" "$room/theirs.sst" "$block"
         printf 'size %s %s %s\n' "$count" "$(stat -c %s "$room/ours.sst")" "$(stat -c %s "$room/theirs.sst")" \
             >>"$room/results"
     done
     printf 'round %s of %s\n' "$round" "$rounds" >&2
 done
 
-# Up to the metaindex, which leads to the properties in theirs, the two last files are the same: the data block and
-# the index block, each with its trailer. Of ours the stored metaindex block has 13 bytes, and the footer 53.
-cmp -n $(($(stat -c %s "$room/ours.sst") - 66)) "$room/ours.sst" "$room/theirs.sst" >&2 ||
-    die 'the data blocks or the index blocks differ'
+# Up to the properties the two last files are the same: the data blocks and the index block, each with its trailer. Where
+# the properties of ours begin, the metaindex says; its handle is in the footer, and both are read by their bytes here.
+properties_start() {
+    local size
+    size=$(stat -c %s "$1")
+    tail -c 53 "$1" | od -An -v -tu1 -w53 | awk '
+        function number(    v, m) { v = 0; m = 1; while ($at >= 128) { v += ($at - 128) * m; m *= 128; at++ } v += $at * m; at++; return v }
+        { at = 2; print number(), number() }'
+}
+same=$(awk -v line="$(properties_start "$room/ours.sst")" 'BEGIN { split(line, n, " "); print n[1] }')
+names=$(tail -c "+$((same + 1))" "$room/ours.sst" | head -c 64 | od -An -v -tu1 -w64 | awk '
+    function number(    v, m) { v = 0; m = 1; while ($at >= 128) { v += ($at - 128) * m; m *= 128; at++ } v += $at * m; at++; return v }
+    { at = 4 + $2; print number() }')
+cmp -n "$names" "$room/ours.sst" "$room/theirs.sst" >&2 || die 'the data blocks or the index blocks differ'
 printf 'the data blocks and the index blocks are the same bytes\n'
 
 # The last file is the largest. RocksDB's own tool reads it whole and checks its checksums, where it is there.

@@ -1,10 +1,11 @@
 // Writes the entry lines of standard input as a block-based table file with RocksDB's own SstFileWriter.
 //
-//   sst_file_writer OUT < LINES
+//   sst_file_writer OUT BLOCK < LINES
 //
-// bench/run.sh compares `sst write block OUT` with it. The file has one data block, version 2, masked CRC32C
-// checksums, no compression and no filter. SstFileWriter gives each entry the sequence number 0 and adds a
-// properties block, which `sst` doesn't write yet.
+// bench/run.sh compares `sst write block OUT block=BLOCK` with it. The file has version 2, masked CRC32C checksums, no
+// compression and no filter. A data block ends where it has BLOCK bytes, without a look at the next entry, and separators
+// aren't shortened: so the data blocks and the index are those of `sst`. SstFileWriter gives each entry the sequence number
+// 0, and more properties.
 //
 // It takes lines of kind P with sequence number 0 alone, and prints `wrote N` as `sst` does.
 #include <rocksdb/env.h>
@@ -14,6 +15,7 @@
 
 #include <cstdint>
 #include <cstdio>
+#include <cstdlib>
 #include <cstring>
 #include <string>
 
@@ -65,12 +67,14 @@ int failed(const std::string &what) {
 }  // namespace
 
 int main(int count, char **words) {
-  if (count != 2) return failed("usage: sst_file_writer OUT < LINES");
+  if (count != 3) return failed("usage: sst_file_writer OUT BLOCK < LINES");
 
   rocksdb::BlockBasedTableOptions table;
   table.format_version = 2;
   table.checksum = rocksdb::kCRC32c;
-  table.block_size = size_t{1} << 30;
+  table.block_size = strtoull(words[2], nullptr, 10);
+  table.block_size_deviation = 0;
+  table.index_shortening = rocksdb::BlockBasedTableOptions::IndexShorteningMode::kNoShortening;
   table.filter_policy = nullptr;
   rocksdb::Options options;
   options.compression = rocksdb::kNoCompression;
