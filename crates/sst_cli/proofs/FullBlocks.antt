@@ -1,9 +1,9 @@
 -- A list is cut where blocks are full: joined the blocks are the list, and each ends where it is full and no sooner.
-use Rattle.std.proofs.Common.{◌≡◌, ◌⊎◌, inl, inr, ℕ, zero, suc, ◌<◌, ◌&&◌, nat_lt, nat_le, Bool, true, false, if◌then◌else◌, List, [], ◌∷◌, ◌++◌, length, IsTrue, refl, sym, ap, ◌∙◌, subst, length-append, append_assoc, arith}
+use Rattle.std.proofs.Common.{◌≡◌, ◌⊎◌, inl, inr, ℕ, ◌<◌, ◌&&◌, nat_lt, Bool, true, false, if◌then◌else◌, List, [], ◌∷◌, ◌++◌, length, IsTrue, refl, sym, ap, ◌∙◌, subst, length-append, append_assoc, arith}
 use Rattle.std.proofs.lemmas.Bool.{lt-ltb}
 use Rattle.std.proofs.lemmas.List.{append-nil}
 use Rattle.sst_key.specs.declared.entries.Entry.{Entry}
-use Rattle.sst_cli.specs.Cut.{Blocks, data_block, is_full, add_entry, cut_from, cut_of, ended_all, blocks_for, entries_in, IsLean, AreBlocks}
+use Rattle.sst_cli.specs.Cut.{Blocks, is_full, add_entry, cut_from, cut_of, blocks_for, entries_in, IsLean, AreBlocks}
 
 -- the blocks are full, and none has an entry more than that takes
 abbrev AreFull : ℕ → List (List Entry) → Type 0
