@@ -40,7 +40,7 @@ data_block-short entries fits = omega (arith, data_block-le entries, fits.light)
 weight-some : (e : Entry) (rest : List Entry) → 64 ≤ weight (e ∷ rest)
 weight-some e rest = omega (arith, sum_by-cons entry_weight e rest)
 
-length-data_part : (block : List Entry) (rest : List (List Entry)) → length (data_part (block ∷ rest)) ≡ stored_length (data_block block) + length (data_part rest)
+pub length-data_part : (block : List Entry) (rest : List (List Entry)) → length (data_part (block ∷ rest)) ≡ stored_length (data_block block) + length (data_part rest)
 length-data_part block rest = length-append (frame_of (data_block block)) (data_part rest) ∙ ap (λ (n : ℕ). n + length (data_part rest)) (length-frame (data_block block))
 
 -- the stored data blocks take at most twice what the entries weigh
