@@ -1,5 +1,5 @@
 -- The index rows of a list that was cut into data blocks lead to these, and the last keys separate them.
-use Rattle.std.proofs.Common.{◌≡◌, ◌≢◌, ℕ, ◌+◌, ◌^◌, ◌<◌, ◌≤◌, List, [], ◌∷◌, ◌++◌, length, length-append, map, All, refl, sym, ap, ◌∙◌, append_assoc, arith}
+use Rattle.std.proofs.Common.{◌≡◌, ◌≢◌, ℕ, ◌+◌, ◌<◌, ◌≤◌, List, [], ◌∷◌, ◌++◌, length, length-append, map, refl, sym, ap, ◌∙◌, append_assoc, arith}
 use Rattle.std.proofs.lemmas.List.Elements.{All-weaker}
 use Rattle.std.specs.declared.cmp.Ordering.TheVariants.{Less, Equal, Greater}
 use Rattle.std.specs.Cmp.{nat_cmp_is}
@@ -56,12 +56,11 @@ rows-lead file front tail at end (block ∷ rest) some fits is place within =
     let behind = data_part rest ++ tail in
     let parted : file ≡ front ++ (frame ++ behind) = is ∙ ap (λ (l : List ℕ). front ++ l) (append_assoc frame (data_part rest) tail) in
     let long = length-data_part block rest in
-    let next : at + stored_length (data_block block) ≡ length (front ++ frame) = omega (arith, place, length-append front frame, length-frame (data_block block)) in
-    (
+    let next : at + stored_length (data_block block) ≡ length (front ++ frame) = omega (arith, place, length-append front frame, length-frame (data_block block)) in (
       refl,
       row-leads file front behind at end block some.0 (fits-front block (entries_in rest) fits) parted place (omega (arith, within, long)),
       rows-lead file (front ++ frame) tail (at + stored_length (data_block block)) end rest some.1 (fits-back block (entries_in rest) fits)
-      (parted ∙ sym (append_assoc front frame behind)) next (omega (arith, within, long)),
+          (parted ∙ sym (append_assoc front frame behind)) next (omega (arith, within, long)),
     )
 
 -- a key isn't after itself
@@ -86,10 +85,10 @@ blocks-separated (block ∷ []) some fits = (not-after_itself (last_key [] (rows
 blocks-separated ([] ∷ next ∷ rest) some fits = absurd (omega (arith, some.0))
 blocks-separated ((e ∷ block) ∷ [] ∷ rest) some fits = absurd (omega (arith, some.1.0))
 blocks-separated ((e ∷ block) ∷ (f ∷ next) ∷ rest) some fits = (
-    not-after_itself (last_key (key_of e) (rows_of block)),
-    begins-after e block f (next ++ entries_in rest) fits,
-    blocks-separated ((f ∷ next) ∷ rest) some.1 (fits-back (e ∷ block) ((f ∷ next) ++ entries_in rest) fits),
-  )
+  not-after_itself (last_key (key_of e) (rows_of block)),
+  begins-after e block f (next ++ entries_in rest) fits,
+  blocks-separated ((f ∷ next) ∷ rest) some.1 (fits-back (e ∷ block) ((f ∷ next) ++ entries_in rest) fits),
+)
 
 blocks-joined : (blocks : List (List Entry)) → joined (map indexed blocks) ≡ entries_in blocks
 blocks-joined [] = refl

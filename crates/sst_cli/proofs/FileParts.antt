@@ -1,6 +1,5 @@
 -- The blocks of a file stand where they were put: data blocks, index block, properties block, metaindex block, footer.
-use Rattle.std.proofs.Common.{◌≡◌, ℕ, ◌+◌, ◌^◌, ◌≤◌, List, ◌++◌, length, length-append, refl, sym, ap, ◌∙◌, subst, append_assoc, arith}
-use Rattle.sst_num.specs.declared.block_handle.Handle.{Handle}
+use Rattle.std.proofs.Common.{◌≡◌, ℕ, ◌+◌, ◌^◌, ◌≤◌, List, ◌++◌, length, length-append, refl, sym, ◌∙◌, subst, append_assoc, arith}
 use Rattle.sst_device.specs.Framed.{Framed, frame_of}
 use Rattle.sst_device.proofs.Frames.{frame-framed}
 use Rattle.sst_cli.proofs.IndexRows.{length-frame}

@@ -1,5 +1,5 @@
 -- The footer that is written leads to the metaindex and the index, and a file that it ends says of itself what its blocks say.
-use Rattle.std.proofs.Common.{◌≡◌, ℕ, ◌+◌, ◌-◌, ◌^◌, ◌<◌, ◌≤◌, List, [], ◌∷◌, ◌++◌, length, length-append, None, Some, refl, sym, ap, ◌∙◌, subst, append_assoc, Option, arith}
+use Rattle.std.proofs.Common.{◌≡◌, ℕ, ◌+◌, ◌-◌, ◌^◌, ◌<◌, List, ◌∷◌, ◌++◌, length, length-append, None, Some, refl, sym, ap, ◌∙◌, subst, append_assoc, Option, arith}
 use Rattle.std.proofs.lemmas.List.{length-replicate}
 use Rattle.sst_num.specs.Spelling.{handle_spelling}
 use Rattle.sst_num.specs.declared.block_handle.Handle.{Handle}

@@ -71,15 +71,15 @@ cut-step limit ended current entries e cut =
     elim (is_full limit current) as (λ (t : Bool). is_full limit current ≡ t
     → IsCut limit (if t then record { ended = ended ++ current ∷ []; current = e ∷ [] } else record { ended = ended; current = current ++ e ∷ [] }) (entries ++ e ∷ [])) [
       | true ↦ λ is. record {
-          full = full-push limit ended current cut.full is cut.lean;
-          lean = lean-push limit [] e (lean-nil limit) (λ none. cc);
-          all = ap (λ (l : List Entry). l ++ e ∷ []) (entries_in-push ended current ∙ cut.all);
-        }
+        full = full-push limit ended current cut.full is cut.lean;
+        lean = lean-push limit [] e (lean-nil limit) (λ none. cc);
+        all = ap (λ (l : List Entry). l ++ e ∷ []) (entries_in-push ended current ∙ cut.all);
+      }
       | false ↦ λ is. record {
-          full = cut.full;
-          lean = lean-push limit current e cut.lean (λ full. cc);
-          all = sym (append_assoc (entries_in ended) current (e ∷ [])) ∙ ap (λ (l : List Entry). l ++ e ∷ []) cut.all;
-        }
+        full = cut.full;
+        lean = lean-push limit current e cut.lean (λ full. cc);
+        all = sym (append_assoc (entries_in ended) current (e ∷ [])) ∙ ap (λ (l : List Entry). l ++ e ∷ []) cut.all;
+      }
     ] refl
 
 -- and all that follow

@@ -1,15 +1,14 @@
 -- The index of some data blocks: its rows may stand in a block, which stands for them, and it isn't too long.
-use Rattle.std.proofs.Common.{◌≡◌, ℕ, ◌+◌, ◌*◌, ◌^◌, ◌<◌, ◌≤◌, false, List, [], ◌∷◌, ◌++◌, length, length-append, All, refl, sym, ap, ◌∙◌, subst, sum_by, arith}
-use Rattle.std.proofs.lemmas.List.Elements.{All-nil, All-cons, All-head, All-tail, All-weaker}
+use Rattle.std.proofs.Common.{◌≡◌, ℕ, ◌+◌, ◌*◌, ◌^◌, ◌<◌, ◌≤◌, false, List, [], ◌∷◌, ◌++◌, length, length-append, All, refl, ap, ◌∙◌, sum_by, arith}
+use Rattle.std.proofs.lemmas.List.Elements.{All-nil, All-cons}
 use Rattle.std.proofs.lemmas.List.Sums.{sum_by-append, sum_by-cons}
 use Rattle.std.specs.declared.cmp.Ordering.TheVariants.{Less}
-use Rattle.sst_num.specs.Spelling.{handle_spelling}
 use Rattle.sst_num.specs.declared.block_handle.Handle.{Handle}
 use Rattle.sst_key.specs.declared.entries.Entry.{Entry}
-use Rattle.sst_key.specs.Entry.{key_of, IsOrdered, entry_weight, weight}
+use Rattle.sst_key.specs.Entry.{key_of, entry_weight, weight}
 use Rattle.sst_key.specs.InternalKey.{internal_cmp}
 use Rattle.sst_block.specs.declared.row_form.RowForm.TheVariants.{Index}
-use Rattle.sst_block.specs.Block.{Row, Block, IsRow, AreOrdered}
+use Rattle.sst_block.specs.Block.{Block, IsRow, AreOrdered}
 use Rattle.sst_block.specs.Builder.{last_key, row_room}
 use Rattle.sst_block.proofs.BlockLaws.{block_of_is_block}
 use Rattle.sst_block.proofs.Size.{block_of-le}
@@ -17,7 +16,7 @@ use Rattle.sst_device.specs.Framed.{frame_of, trailer_of}
 use Rattle.sst_bbt_spec.specs.Rows.{rows_of}
 use Rattle.sst_meta.proofs.Footers.{length-handle}
 use Rattle.sst_cli.specs.Cut.{data_block, entries_in}
-use Rattle.sst_cli.specs.Written.{IsInLimits, Fits, stored_length, data_part, index_row, index_rows, index_block}
+use Rattle.sst_cli.specs.Written.{Fits, stored_length, data_part, index_row, index_rows, index_block}
 use Rattle.sst_cli.proofs.FullBlocks.{HaveEntries}
 use Rattle.sst_cli.proofs.ListParts.{last_entry, last_key-entry, last_entry-limits, last_entry-weight, last-before, before-last, keys-less, fits-front, fits-back}
 use Rattle.sst_cli.proofs.Rows.{length-key_of, rows_of-room}
@@ -95,9 +94,9 @@ index_rows-ordered at (block ∷ []) some fits = tt
 index_rows-ordered at ([] ∷ next ∷ rest) some fits = absurd (omega (arith, some.0))
 index_rows-ordered at ((e ∷ block) ∷ [] ∷ rest) some fits = absurd (omega (arith, some.1.0))
 index_rows-ordered at ((e ∷ block) ∷ (f ∷ next) ∷ rest) some fits = (
-    neighbours e block f next (entries_in rest) fits,
-    index_rows-ordered (at + stored_length (data_block (e ∷ block))) ((f ∷ next) ∷ rest) some.1 (fits-back (e ∷ block) ((f ∷ next) ++ entries_in rest) fits),
-  )
+  neighbours e block f next (entries_in rest) fits,
+  index_rows-ordered (at + stored_length (data_block (e ∷ block))) ((f ∷ next) ∷ rest) some.1 (fits-back (e ∷ block) ((f ∷ next) ++ entries_in rest) fits),
+)
 
 row-room : (at : ℕ) (e : Entry) (block : List Entry) → row_room (index_row at (e ∷ block)) ≤ weight (e ∷ block)
 row-room at e block =

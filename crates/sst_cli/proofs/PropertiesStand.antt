@@ -1,9 +1,9 @@
 -- The properties block and the metaindex block of a file that is written stand for their rows, which say what a reader
 -- looks for.
-use Rattle.std.proofs.Common.{◌≡◌, inl, ℕ, ◌+◌, ◌*◌, ◌^◌, ◌<◌, ◌≤◌, List, [], ◌∷◌, length, All, None, Some, refl, sum_by, arith}
-use Rattle.std.proofs.lemmas.List.Elements.{All-nil, All-cons, All-head, All-tail, All-weaker}
+use Rattle.std.proofs.Common.{◌≡◌, inl, ℕ, ◌*◌, ◌<◌, ◌≤◌, List, [], ◌∷◌, length, All, None, Some, refl, sum_by, arith}
+use Rattle.std.proofs.lemmas.List.Elements.{All-nil, All-cons}
 use Rattle.std.proofs.lemmas.List.Sums.{sum_by-cons}
-use Rattle.sst_num.specs.Spelling.{fixed, varint, handle_spelling}
+use Rattle.sst_num.specs.Spelling.{varint, handle_spelling}
 use Rattle.sst_num.specs.declared.block_handle.Handle.{Handle}
 use Rattle.sst_block.specs.declared.row_form.RowForm.TheVariants.{Names}
 use Rattle.sst_block.specs.Block.{Row, Block, IsRow, AreOrdered}
@@ -12,7 +12,7 @@ use Rattle.sst_block.specs.Chosen.{block_of}
 use Rattle.sst_block.proofs.BlockLaws.{block_of_is_block}
 use Rattle.sst_block.proofs.Size.{block_of-le, length-varint}
 use Rattle.sst_meta.specs.Meta.{AreGood}
-use Rattle.sst_meta.specs.Names.{name_bytes, range_tombstones, comparator, bytewise}
+use Rattle.sst_meta.specs.Names.{name_bytes, range_tombstones}
 use Rattle.sst_meta.specs.PropertyNames as property_names
 use Rattle.sst_meta.specs.Pairs.{value_of}
 use Rattle.sst_meta.specs.declared.name.Name.TheVariants as name
@@ -51,18 +51,39 @@ short-number key n short = (short, omega (arith, length-varint n))
 
 properties-short : (sizes : Sizes) → AreShort (properties sizes)
 properties-short sizes = (
+  (omega arith, omega arith),
+  (
     (omega arith, omega arith),
-    ((omega arith, omega arith),
-    (short-number property_names.data_size sizes.data_size (omega arith),
-    (short-number property_names.filter_size 0 (omega arith),
-    (short-number property_names.format_version 2 (omega arith),
-    (short-number (name_bytes name.IndexKeyIsUserKey) 0 (omega arith),
-    (short-number property_names.index_size sizes.index_size (omega arith),
-    (short-number (name_bytes name.IndexValueIsDeltaEncoded) 0 (omega arith),
-    (short-number property_names.num_data_blocks sizes.blocks (omega arith),
-    (short-number property_names.num_entries sizes.entries (omega arith),
-    (short-number property_names.raw_key_size sizes.keys (omega arith),
-    (short-number property_names.raw_value_size sizes.values (omega arith), tt))))))))))))
+    (
+      short-number property_names.data_size sizes.data_size (omega arith),
+      (
+        short-number property_names.filter_size 0 (omega arith),
+        (
+          short-number property_names.format_version 2 (omega arith),
+          (
+            short-number (name_bytes name.IndexKeyIsUserKey) 0 (omega arith),
+            (
+              short-number property_names.index_size sizes.index_size (omega arith),
+              (
+                short-number (name_bytes name.IndexValueIsDeltaEncoded) 0 (omega arith),
+                (
+                  short-number property_names.num_data_blocks sizes.blocks (omega arith),
+                  (
+                    short-number property_names.num_entries sizes.entries (omega arith),
+                    (
+                      short-number property_names.raw_key_size sizes.keys (omega arith),
+                      (short-number property_names.raw_value_size sizes.values (omega arith), tt),
+                    ),
+                  ),
+                ),
+              ),
+            ),
+          ),
+        ),
+      ),
+    ),
+  ),
+)
 
 properties-ordered : (sizes : Sizes) → AreOrdered Names (properties sizes)
 properties-ordered sizes = (refl, (refl, (refl, (refl, (refl, (refl, (refl, (refl, (refl, (refl, (refl, tt)))))))))))
