@@ -5,7 +5,7 @@
 -- RocksDB: BlockBasedTable::Open, ReadPropertiesBlock and ReadRangeDelBlock in
 -- table/block_based/block_based_table_reader.cc; ReadTableProperties and FindMetaBlock in table/meta_blocks.cc. Which
 -- values are refused is this project's own.
-use Rattle.std.specs.Prelude.{ℕ, ◌^◌, ◌==◌, nat_lt, if◌then◌else◌, Bool, true, false, not, List, [], ◌∷◌, length, Option, None, Some, bytes_eq, Result, Ok, Err}
+use Rattle.std.specs.Prelude.{ℕ, ◌^◌, ◌==◌, nat_lt, if◌then◌else◌, Bool, false, not, List, length, Option, None, Some, bytes_eq, Result, Ok, Err}
 use Rattle.std.specs.Option.{is_some}
 use Rattle.sst_num.specs.Reading.{varint_at, fixed_at, handle_at}
 use Rattle.sst_num.specs.declared.block_handle.Handle.{Handle}

@@ -1,6 +1,5 @@
 //! What a table file says of itself: its length, its footer, its metaindex and its properties.
 ghost use Rattle.std.specs.Prelude.{◌≡◌, ◌≢◌, ℕ, ◌≤◌, ◌^◌, ◌⊎◌, List, length, Option, Some, Err, IsTrue, IfOk};
-
 ghost use Rattle.sst_block.specs.declared.row_form.RowForm.TheVariants.{Names};
 ghost use Rattle.sst_device.specs.Folder.{file_of, misses};
 ghost use Rattle.sst_device.specs.Faults.{Rose};

@@ -21,6 +21,7 @@ const TWO_LEVELS: u32 = 2;
 ///
 /// RocksDB: `ExternalSstFilePropertyNames::kVersion` in table/sst_file_writer_collectors.h.
 const UNMARKED: u32 = 1;
+
 const MARKED: u32 = 2;
 
 /// The first number past the sequence numbers. RocksDB: `kMaxSequenceNumber` in db/dbformat.h.
@@ -178,6 +179,9 @@ pub fn fault_of(props: &Props) -> Option<MetaFault>
     let fault = or_fault(flag_fault(Name::IndexKeyIsUserKey, user_key), fault);
     let fault = or_fault(external_fault(external), fault);
     let fault = or_fault(global_fault(external, global), fault);
-    let fault = or_fault(index_type_fault(props.get(Name::IndexType.as_slice())), fault);
+    let fault = or_fault(
+        index_type_fault(props.get(Name::IndexType.as_slice())),
+        fault,
+    );
     or_fault(comparator_fault(props.get(COMPARATOR)), fault)
 }

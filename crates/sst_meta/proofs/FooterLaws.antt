@@ -1,7 +1,6 @@
 -- What the end of a file is read as is what its footer says, and a fault of it is one that it shows.
 use Rattle.std.proofs.Common.{◌≡◌, ◌≢◌, ℕ, ◌-◌, ◌==◌, ◌&&◌, nat_le, true, false, List, length, Option, None, Some, Result, Ok, Err, refl, ap, subst, ◌∙◌, inl, inr}
 use Rattle.std.proofs.lemmas.Bool.{eqb-true, eqb-false, both_ways, and_parts, and_from, leb-true, le-leb}
-use Rattle.hex.specs.Hex.{IsBytes}
 use Rattle.sst_num.specs.declared.block_handle.Handle.{Handle}
 use Rattle.sst_key.specs.declared.calls.Format.TheVariants as Format
 use Rattle.sst_meta.specs.Footer.{AreHandles}
@@ -11,11 +10,10 @@ use Rattle.sst_meta.specs.declared.meta_fault.MetaFault.{MetaFault}
 use Rattle.sst_meta.specs.declared.meta_fault.MetaFault.TheVariants.{NotTable, Version, ChecksumType, BadFooter, NotYet}
 use Rattle.sst_meta.proofs.HandlesRead.{handles_read-spelled, handles_read-found}
 use Rattle.sst_meta.proofs.FooterReads.{fields-taken}
-use Rattle.sst_meta.specs.BlockFooter.{block_footer}
+use Rattle.sst_meta.specs.BlockFooter.{AreBytes, EndsIn, IsBuilt, FooterLeads, block_footer}
 use Rattle.sst_meta.specs.LoadReading.{end_read}
-use Rattle.sst_meta.specs.BlockFooter.{EndsIn, IsBuilt, FooterLeads}
 use Rattle.sst_meta.specs.MetaFaults.{ShowsMeta}
-use Rattle.sst_cli.proofs.FootersRead.{fields, legacy, other, none, end_reads, end_read-ends}
+use Rattle.sst_meta.proofs.FootersRead.{fields, legacy, other, none, end_reads, end_read-ends}
 use Rattle.sst_device.proofs.Choices.{by_test}
 
 -- the footer of a block-based file with any checksum type
@@ -89,7 +87,7 @@ leads-read file footer e =
     ]
 
 -- a fault of the end of a file, whose last bytes are bytes, is one that the file shows
-pub footer_read-fault : (file : List ℕ) (fault : MetaFault) → IsBytes (last_bytes 53 file) → end_read (last_bytes 53 file) ≡ Err fault → ShowsMeta file fault
+pub footer_read-fault : (file : List ℕ) (fault : MetaFault) → AreBytes (last_bytes 53 file) → end_read (last_bytes 53 file) ≡ Err fault → ShowsMeta file fault
 footer_read-fault file fault bytes e =
     elim (end_reads file (Err fault) e) [
       | fields kind version between ends e ↦

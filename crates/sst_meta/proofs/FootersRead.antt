@@ -3,7 +3,6 @@ use Rattle.std.proofs.Common.{◌≡◌, ℕ, ◌+◌, ◌-◌, ◌^◌, ◌<◌
 use Rattle.std.specs.Option.{option_map}
 use Rattle.std.proofs.lemmas.Bool.{le-leb, eq-eqb, both_ways, and_from}
 use Rattle.std.proofs.lemmas.List.{drop-drop, length-take-le, get_or-drop}
-use Rattle.hex.specs.Hex.{IsBytes}
 use Rattle.sst_num.specs.Spelling.{fixed}
 use Rattle.sst_num.specs.Reading.{fixed_at}
 use Rattle.sst_num.proofs.Fixed.{length-fixed}
@@ -18,10 +17,10 @@ use Rattle.sst_meta.proofs.FileEnds.{last_bytes-joined, last_bytes-twice, last_b
 use Rattle.sst_meta.proofs.FooterKinds.{kind_test, IsKind, known, unknown, kind-is}
 use Rattle.sst_meta.proofs.FooterReads.{later-reads}
 use Rattle.sst_meta.specs.LoadReading.{by_format, end_read}
-use Rattle.sst_meta.specs.BlockFooter.{EndsWith, IsTable, IsOtherTable, EndsIn}
+use Rattle.sst_meta.specs.BlockFooter.{EndsWith, IsTable, IsOtherTable, EndsIn, AreBytes}
 
-pub IsBytes-drop : (n : ℕ) (bytes : List ℕ) → IsBytes bytes → (i : ℕ) → get_or (drop n bytes) i 0 < 256
-IsBytes-drop n bytes are i = rw (get_or-drop n bytes i 0) (are (n + i))
+pub are_bytes-drop : (n : ℕ) (bytes : List ℕ) → AreBytes bytes → (i : ℕ) → get_or (drop n bytes) i 0 < 256
+are_bytes-drop n bytes are i = rw (get_or-drop n bytes i 0) (are (n + i))
 
 -- what a file that ends with a magic number is read by
 pub number-of_end : (file : List ℕ) (m n : ℕ) → m < 256 ^ 8 → 8 ≤ n → EndsWith m n file → number_at_end (last_bytes 53 file) ≡ Some m
@@ -45,11 +44,11 @@ pub data EndReads (file : List ℕ) (read : Result Footer MetaFault) : Type 0 wh
   fields : (kind version : ℕ) (between : List ℕ) → EndsIn file (length file - 53) kind version between → fields_read Format.Block false version kind between ≡ read → EndReads file read
   legacy : EndsWith legacy_block_based_magic 48 file → Err (Version 0) ≡ read → EndReads file read
   other : IsOtherTable file → Err NotYet ≡ read → EndReads file read
-  none : (IsBytes (last_bytes 53 file) → IsTable file → ⊥) → Err NotTable ≡ read → EndReads file read
+  none : (AreBytes (last_bytes 53 file) → IsTable file → ⊥) → Err NotTable ≡ read → EndReads file read
 
 -- the fields of the last 53 bytes
 fields-found : (file front tail : List ℕ) (magic : ℕ) (read : Result Footer MetaFault) → file ≡ front ++ tail → length file - 53 ≡ length front → length tail ≡ 53
-    → last_bytes 8 tail ≡ fixed 8 magic → block_based_magic ≡ magic → (IsBytes (last_bytes 53 file) → (i : ℕ) → get_or (drop 41 tail) i 0 < 256)
+    → last_bytes 8 tail ≡ fixed 8 magic → block_based_magic ≡ magic → (AreBytes (last_bytes 53 file) → (i : ℕ) → get_or (drop 41 tail) i 0 < 256)
     → later_read Format.Block tail ≡ read → EndReads file read
 fields-found file front [] magic read joined at size last is are e = absurd (omega arith)
 fields-found file front (kind ∷ rest) magic read joined at size last is are e =
@@ -140,7 +139,7 @@ by_known file m Format.Block false read is there number long kind e =
     let whole : last_bytes 53 tail ≡ tail = last_bytes-twice 53 53 file (omega arith) (omega arith) in
     fields-found file (take (length file - 53) file) tail m read (last_bytes-split 53 file) (sym front) (omega arith)
     (number_at_end-found tail m is).1 (sym number)
-    (IsBytes-drop 41 tail) (ap (later_read Format.Block) (sym whole) ∙ sym (end_read-block tail false kind) ∙ e)
+    (are_bytes-drop 41 tail) (ap (later_read Format.Block) (sym whole) ∙ sym (end_read-block tail false kind) ∙ e)
 by_known file m Format.Block true read is there number long kind e =
     let size = length-drop (length file - 53) file in
     legacy (subst (λ k. EndsWith k 48 file) number (end-of_number file m 48 is (omega arith))) (sym (end_read-block (last_bytes 53 file) true kind) ∙ e)

@@ -1,0 +1,49 @@
+//! What is loaded of a file is what the file says of itself.
+ghost use Rattle.std.specs.Prelude.{◌≡◌, ◌⊎◌, ℕ, ◌-◌, List, length, Ok, Err};
+ghost use Rattle.sst_num.specs.declared.block_handle.Handle.{Handle};
+ghost use Rattle.sst_meta.specs.BlockFooter.{AreBytes, FooterLeads, block_footer, footer_start};
+ghost use Rattle.sst_meta.specs.FooterReading.{last_bytes};
+ghost use Rattle.sst_meta.specs.LoadReading.{end_read, load_read};
+ghost use Rattle.sst_meta.specs.Meta.{Meta};
+ghost use Rattle.sst_meta.specs.MetaFaults.{ShowsMeta};
+ghost use Rattle.sst_meta.specs.declared.footer.Footer.{Footer};
+ghost use Rattle.sst_meta.specs.declared.loading.Loaded.{Loaded};
+ghost use Rattle.sst_meta.specs.declared.meta_fault.MetaFault.{MetaFault};
+
+/// What the last 53 bytes of a file read as is what its footer says, or a fault that the file shows.
+///
+/// `complete`: a footer that leads to two handles is read. `sound`: one that is read leads to its handles. `faults`
+/// holds where the last 53 numbers of the list are bytes, as those of a real file are.
+/// RocksDB: `Footer::DecodeFrom` in table/format.cc.
+pub fn a_footer_is_read()
+    ensures complete { (file : List ℕ) (metaindex index : Handle) (leads : FooterLeads file (footer_start file) metaindex index)
+        → end_read (last_bytes 53 file) ≡ Ok (block_footer leads.version metaindex index) }
+    ensures sound { (file : List ℕ) (footer : Footer) → end_read (last_bytes 53 file) ≡ Ok footer
+        → (leads : FooterLeads file (footer_start file) footer.meta footer.index)
+        × (footer ≡ block_footer leads.version footer.meta footer.index) }
+    ensures faults { (file : List ℕ) (fault : MetaFault) → AreBytes (last_bytes 53 file)
+        → end_read (last_bytes 53 file) ≡ Err fault → ShowsMeta file fault }
+{}
+
+/// What is loaded of a file is exactly what it says of itself.
+///
+/// What a file says of itself is told by its footer, its blocks and their rows, and never by reading. `complete`: what a
+/// file says of itself is loaded. `sound`: a file says of itself what is loaded. So it says one thing at most.
+/// RocksDB: `BlockBasedTable::Open` in table/block_based/block_based_table_reader.cc.
+pub fn a_file_loads_as_it_says()
+    ensures complete { (file : List ℕ) (loaded : Loaded) → Meta file loaded → load_read file ≡ Ok loaded }
+    ensures sound { (file : List ℕ) (loaded : Loaded) → load_read file ≡ Ok loaded → Meta file loaded }
+    ensures one { (file : List ℕ) (a b : Loaded) → Meta file a → Meta file b → a ≡ b }
+{}
+
+/// A fault that loading a file answers is one that the file shows, and a file that loads shows none.
+///
+/// `shown` and `either` hold where the last 53 numbers of the list are bytes, as those of a real file are.
+/// RocksDB: `BlockBasedTable::Open` in table/block_based/block_based_table_reader.cc.
+pub fn a_meta_fault_is_shown()
+    ensures shown { (file : List ℕ) (fault : MetaFault) → AreBytes (last_bytes 53 file) → load_read file ≡ Err fault
+        → ShowsMeta file fault }
+    ensures none { (file : List ℕ) (loaded : Loaded) (fault : MetaFault) → Meta file loaded → ShowsMeta file fault → ⊥ }
+    ensures either { (file : List ℕ) → AreBytes (last_bytes 53 file)
+        → ((loaded : Loaded) × Meta file loaded) ⊎ ((fault : MetaFault) × ShowsMeta file fault) }
+{}
