@@ -77,7 +77,8 @@ pub seek-ahead : (user : List ℕ) (seq : ℕ) (separator : List ℕ) (e : Entry
 seek-ahead user seq separator e h low up =
     seek-words user seq e (ahead e.user (user_of separator) user _ (tag_of separator) _ (upto-words separator e low up) (separator-words user separator _ h))
 
-weaker : (a b : List ℕ) (s t : ℕ) → Before a s b t → UpTo a s b t
+-- what is before is no later
+pub weaker : (a b : List ℕ) (s t : ℕ) → Before a s b t → UpTo a s b t
 weaker a b s t (inl less) = inl less
 weaker a b s t (inr tied) = inr (tied.0, omega (arith, tied.1))
 

@@ -1,7 +1,7 @@
 -- Entries as the rows of a data block.
 -- RocksDB: BlockBasedTableBuilder::Add in table/block_based/block_based_table_builder.cc; the layout at the top of
 -- table/block_based/block_builder.cc.
-use Rattle.std.specs.Prelude.{ℕ, ◌^◌, ◌<◌, List, map}
+use Rattle.std.specs.Prelude.{◌^◌, ◌<◌, List, map}
 use Rattle.sst_key.specs.declared.entries.Entry.{Entry}
 use Rattle.sst_key.specs.Entry.{key_of}
 use Rattle.sst_block.specs.Block.{Row}

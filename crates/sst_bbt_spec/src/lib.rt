@@ -39,4 +39,7 @@
 
 mod laws;
 
-pub use laws::the_way_is_the_lists;
+pub use laws::{
+    a_file_stands_for_one_list, a_file_that_stands_is_separated, the_way_is_the_lists,
+    what_a_file_stands_for_is_ordered,
+};

@@ -1,0 +1,8 @@
+use Rattle.sst_bbt_spec.proofs.OneList.{opens-one, stands-one}
+use Rattle.sst_bbt_spec.proofs.laws.a_file_stands_for_one_list.Goals as goal
+
+pub returns-clause-opens : goal.returns-clause-opens
+returns-clause-opens c = opens-one
+
+pub returns-clause-stands : goal.returns-clause-stands
+returns-clause-stands c = stands-one
