@@ -81,8 +81,7 @@ blocks_read-found file read e =
     then_open-ok (block_at bbt.Frame (bbt.Block index) (Index false false) file end index) (runs_read file end) read e
     (λ index_rows found last.
     let at = block_at-found bbt.Frame (bbt.Block index) (Index false false) file end index index_rows tt found in
-    let runs = runs_read-found file end index_rows read at.block.forms last in
-    (
+    let runs = runs_read-found file end index_rows read at.block.forms last in (
       runs.blocks,
       record {
         loaded = loaded;
