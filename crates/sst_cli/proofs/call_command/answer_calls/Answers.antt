@@ -2,8 +2,7 @@ use Rattle.std.proofs.Common.{Ok, Err, refl, sym, inl, inr}
 use Rattle.sst_cli.specs.FaultText.{fault_text}
 use Rattle.sst_device.specs.Folder.{file_of}
 use Rattle.sst_cli.specs.TableBlocks.{blocks_of, row_blocks_of}
-use Rattle.sst_cli.proofs.BlocksOpened.{open_read-fault_of}
-use Rattle.sst_cli.proofs.OneBlock.{table-seqs}
+use Rattle.sst_cli.proofs.JoinedBlocks.{table-seqs}
 use Rattle.sst_cli.specs.Replies.{way_text}
 use Rattle.sst_cli.proofs.BlocksOpened.{blocks_read-found}
 use Rattle.sst_cli.proofs.CallsPrinted.{file_text_is, some_answers_text}
@@ -46,7 +45,7 @@ returns-in-Err-Memory-clause-printed g c =
 pub returns-in-Err-Damage-clause-damaged : goal.returns-in-Err-Damage-clause-damaged
 returns-in-Err-Damage-clause-damaged g c = λ ends file held.
     let reads = rw c.in-Err-Damage.field-0-is at c.in-Err-Damage.ensures.told in
-    (c.in-Err-Damage.fault, open_read-fault_of file c.in-Err-Damage.fault (reads file held))
+    (c.in-Err-Damage.fault, reads file held)
 
 pub returns-in-Ok-clause-opened : goal.returns-in-Ok-clause-opened
 returns-in-Ok-clause-opened g c = λ is file held.

@@ -21,7 +21,7 @@ returns-in-Some-clause-answered_as_list g c = λ name file text entries calls wo
     only_out (map string_bytes c.args.words.now) c.in-Some.name.now name _ c.in-Some.ensures words
 
 pub returns-in-Some-clause-answered : goal.returns-in-Some-clause-answered
-returns-in-Some-clause-answered g c = λ name file text entries opens calls words held left reads.
+returns-in-Some-clause-answered g c = λ name file text blocks opens calls words held left reads.
     only_out (map string_bytes c.args.words.now) c.in-Some.name.now name _ c.in-Some.ensures words
 
 pub returns-in-Some-calls_name-clause-headline_calls : goal.returns-in-Some-calls_name-clause-headline_calls
@@ -39,10 +39,10 @@ returns-in-Some-calls_name-clause-answered_as_list g c = λ name file text entri
     (told text file calls left reads held) c.calls.ensures.kept
 
 pub returns-in-Some-calls_name-clause-answered : goal.returns-in-Some-calls_name-clause-answered
-returns-in-Some-calls_name-clause-answered g c = λ name file text entries opens calls words held left reads.
+returns-in-Some-calls_name-clause-answered g c = λ name file text blocks opens calls words held left reads.
     let same = named c.in-Some-calls_name.name.now name _ c.in-Some-calls_name.ensures words in
     let told = rw same at c.calls.ensures.told in
-    answered_way c.calls.result file entries opens calls (g.F.Folder.held c.args.files.now) (g.F.Folder.held c.calls.new.files) (g.I.Intake.left c.calls.new.input) (g.O.Sink.written c.args.out.now) (g.O.Sink.written c.calls.new.out)
+    answered_way c.calls.result file blocks opens calls (g.F.Folder.held c.args.files.now) (g.F.Folder.held c.calls.new.files) (g.I.Intake.left c.calls.new.input) (g.O.Sink.written c.args.out.now) (g.O.Sink.written c.calls.new.out)
     (told text file calls left reads held) c.calls.ensures.kept
 
 pub returns-in-Some-calls_name-clause-damaged : goal.returns-in-Some-calls_name-clause-damaged
