@@ -1,11 +1,13 @@
 -- Where Seek and SeekForPrev land in the block to which the separators lead, as the code of a reader finds it.
-use Rattle.std.proofs.Common.{◌≡◌, ℕ, ◌+◌, ◌-◌, ◌<◌, ◌≤◌, List, length, take, drop, count_by, slice_get, slice_index_or, [], Option, None, Some, refl, sym, ap, ◌∙◌, subst, arith}
+use Rattle.std.proofs.Common.{◌≡◌, ℕ, zero, suc, ◌+◌, ◌-◌, ◌<◌, ◌≤◌, List, length, take, drop, count_by, slice_get, slice_index_or, [], Option, None, Some, refl, sym, ap, ◌∙◌, subst, arith}
+use Rattle.std.specs.Option.{SomeIff}
 use Rattle.std.proofs.lemmas.List.Sums.{count_by-le-length}
 use Rattle.std.proofs.lemmas.Option.{slice_get-get_or}
 use Rattle.sst_key.specs.declared.entries.Entry.{Entry}
 use Rattle.sst_key.specs.Entry.{IsOrdered}
 use Rattle.sst_key.specs.ListMachine.{is_before_target, is_up_to_target, place_in, place_before, below, up_to, last_of}
 use Rattle.sst_bbt_spec.specs.Way.{seek_tag, seek_for_prev_tag, way_seek, way_seek_for_prev}
+use Rattle.sst_cli.specs.Cursors.{Belongs}
 use Rattle.sst_cli.specs.TableBlocks.{Table, IsTable, AreEntries, blocks_of, start_at}
 use Rattle.sst_cli.specs.declared.bbt_reader.BlockEnd.{BlockEnd}
 use Rattle.sst_cli.proofs.BlockSearch.{is_block_before}
@@ -78,3 +80,18 @@ counted table now ends user t i same are count =
 
 pub past : (table now : Table) (i : ℕ) → table ≡ now → length table.ends ≤ i → length now.ends ≤ i
 past table now i same high = subst (λ (t : Table). length t.ends ≤ i) same high
+
+-- one less, where there is one
+pub one_less : (n : ℕ) (place : Option ℕ) → SomeIff place (1 ≤ n) (n - 1) → place ≡ place_before n
+one_less zero None is = refl
+one_less zero (Some i) is = absurd (omega (arith, is.0))
+one_less (suc n) None is = absurd (is (omega arith))
+one_less (suc n) (Some i) is = ap (λ (k : ℕ). Some k) (omega (arith, is.1))
+
+pub before-belongs : (entries : List Entry) (n : ℕ) (place : Option ℕ) → SomeIff place (1 ≤ n) (n - 1) → n ≤ length entries → Belongs entries place
+before-belongs entries n None is within = tt
+before-belongs entries n (Some i) is within = omega (arith, is.0, is.1, within)
+
+-- the last of all
+pub last-place : (table now : Table) (n : ℕ) → table ≡ now → n ≡ length table.entries → place_before n ≡ last_of now.entries
+last-place table now n same long = ap place_before (long ∙ ap (λ (t : Table). length t.entries) same)
