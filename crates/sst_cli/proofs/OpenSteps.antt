@@ -85,7 +85,7 @@ short_enough : (short : Bool) (read : Result Loaded MetaFault) (loaded : Loaded)
 short_enough true read loaded is = is
 short_enough false read loaded is = absurd (cc)
 
-same_length : (file : List ℕ) (footer : Footer) (names : List Row) (props : Option (List Row)) (loaded : Loaded) → Ok {E = MetaFault} (as_loaded file footer names props) ≡ Ok loaded
+same_length : (file : List ℕ) (footer : Footer) (names : List Row) (props : Option (List Row)) (loaded : Loaded) → ◌≡◌ {A = Result Loaded MetaFault} (Ok (as_loaded file footer names props)) (Ok loaded)
     → loaded.len ≡ length file
 same_length file footer names props loaded is =
     let same : as_loaded file footer names props ≡ loaded = cc in

@@ -107,7 +107,8 @@ fn read_runs<F: Folder>(
     index: &[u8],
     count: u32,
 ) -> Result<BbtReader, Stop<BbtFault>>
-    requires { (rows : List Row) × Reads (Index false false) index.now rows × (length rows ≡ count) }
+    requires short { length index.now ≤ 2 ^ 29 }
+    requires read { (rows : List Row) × Reads (Index false false) index.now rows × (length rows ≡ count) }
     ensures told { (file : List ℕ) → file_of (F.held files.old) name.now ≡ Some file → end ≤ length file
         → (rows : List Row) → Reads (Index false false) index.now rows → length rows ≡ count
         → Opened result (runs_read file end rows) }
