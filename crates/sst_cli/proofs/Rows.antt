@@ -38,7 +38,7 @@ rows_of-forms (e ∷ rest) limits =
     All-cons (IsRow Entries) (row_of e) (rows_of rest) (row_of-is_row e (All-head IsInLimits e rest limits)) (rows_of-forms rest (All-tail IsInLimits e rest limits))
 
 -- entries in order have keys in order
-less-keys : (a b : Entry) → IsInLimits a → IsInLimits b → IsBefore a b → internal_cmp (key_of a) (key_of b) ≡ Less
+pub less-keys : (a b : Entry) → IsInLimits a → IsInLimits b → IsBefore a b → internal_cmp (key_of a) (key_of b) ≡ Less
 less-keys a b la lb before = internal_cmp-entries a b la.seq lb.seq ∙ less-from_IsBefore a b before
 
 pub rows_of-ordered : (entries : List Entry) → All IsInLimits entries → IsOrdered entries → AreOrdered Entries (rows_of entries)
@@ -69,7 +69,7 @@ pub last_key-append : (entries : List Entry) (e : Entry) → last_key [] (rows_o
 last_key-append entries e = ap (last_key []) (rows_of-append entries e) ∙ last_key-more [] (rows_of entries) (row_of e)
 
 -- each row takes at most the weight of its entry
-rows_of-room : (entries : List Entry) → sum_by row_room (rows_of entries) ≤ weight entries
+pub rows_of-room : (entries : List Entry) → sum_by row_room (rows_of entries) ≤ weight entries
 rows_of-room [] = omega arith
 rows_of-room (e ∷ rest) =
     omega (arith, rows_of-room rest, length-key_of e, sum_by-cons row_room (row_of e) (rows_of rest), sum_by-cons entry_weight e rest)
