@@ -1,5 +1,6 @@
 -- How a list that is cut into blocks is cut with one entry more.
 use Rattle.std.proofs.Common.{◌≡◌, ℕ, ◌<◌, true, false, Bool, if◌then◌else◌, nat_lt, List, [], ◌∷◌, ◌++◌, length, length-append, All, refl, sym, ap, ◌∙◌, subst, append_assoc, arith}
+use Rattle.std.proofs.lemmas.Bool.{lt-ltb}
 use Rattle.std.proofs.lemmas.List.{append-nil}
 use Rattle.std.proofs.lemmas.List.Elements.{All-nil, All-push}
 use Rattle.sst_key.specs.declared.entries.Entry.{Entry}
@@ -87,3 +88,10 @@ blocks-last limit entries =
       | true ↦ refl
       | false ↦ sym (append-nil cut.ended)
     ]
+
+-- a full block is ended to make room, and one with an entry at the end
+pub room-full : (limit : ℕ) (cut : Blocks) → is_full limit cut.current ≡ true → with_room limit cut ≡ ended_now cut
+room-full limit cut full = rw full refl
+
+pub last-some : (cut : Blocks) → 0 < length cut.current → ended_last cut ≡ ended_now cut
+last-some cut some = rw (lt-ltb 0 (length cut.current) some) refl
