@@ -1,0 +1,1 @@
+use Rattle.sst_cli.proofs.bbt_writer.BbtWriter.end_last.Goals as goal
