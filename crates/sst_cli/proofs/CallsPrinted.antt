@@ -1,32 +1,33 @@
 -- Which text a `calls` has, and what was printed of it.
-use Rattle.std.proofs.Common.{◌∷◌, ◌-◌, length, ◌≡◌, ◌⊎◌, ℕ, List, [], Option, None, Some, Result, Ok, Err, refl, sym, ap, ◌∙◌, subst, inl, inr}
+use Rattle.std.proofs.Common.{◌-◌, ◌+◌, ◌<◌, length, ◌≡◌, ◌⊎◌, ℕ, List, [], ◌∷◌, drop, Option, None, Some, Result, Ok, Err, refl, sym, ap, ◌∙◌, subst, inl, inr}
+use Rattle.std.proofs.lemmas.List.{get_or-drop}
 use Rattle.std.proofs.lemmas.List.Elements.{All-nil}
 use Rattle.std.specs.Io.KnownBytes.{append_known}
+use Rattle.hex.specs.Hex.{IsBytes}
 use Rattle.sst_key.specs.declared.entries.Entry.{Entry}
 use Rattle.sst_key.specs.declared.calls.Call.{Call}
-use Rattle.sst_bbt_spec.specs.Rows.{HasSeq}
-use Rattle.sst_bbt_spec.specs.BlockBased.{BlockBased}
-use Rattle.hex.specs.Hex.{IsBytes}
-use Rattle.sst_bbt_spec.specs.BlockBased.{Opens}
 use Rattle.sst_device.specs.Folder.{Files}
-use Rattle.sst_cli.specs.Words.{out_name, calls_name}
-use Rattle.sst_cli.proofs.BlocksOpened.{blocks_read-opens, blocks_read-found, open_read-fault_of}
-use Rattle.sst_cli.proofs.Separated.{opens-seqs, row_blocks-one, stands-text}
-use Rattle.sst_cli.specs.TableBlocks.{blocks_in, row_blocks_of}
+use Rattle.sst_meta.specs.FooterReading.{last_bytes}
+use Rattle.sst_bbt_spec.specs.Rows.{HasSeq}
+use Rattle.sst_bbt_spec.specs.BlockBased.{BlockBased, Opens}
 use Rattle.sst_bbt_spec.specs.Way.{IndexedBlock}
-use Rattle.sst_cli.proofs.FaultsShown.{open_read-fault}
-use Rattle.sst_cli.proofs.FootersRead.{IsBytes-drop}
+use Rattle.sst_bbt_spec.proofs.Stands.{opens-seqs}
 use Rattle.sst_cli.specs.CallsRun.{IsFileText, IsAnswered, Answered, AnsweredByWay, IsDamaged, IsAnswersText, IsInputText, IsCallsText, file_status}
 use Rattle.sst_cli.specs.FaultText.{fault_text}
 use Rattle.sst_cli.specs.Opening.{RowBlock, blocks_read}
 use Rattle.sst_cli.specs.Printed.{IsPrinted}
 use Rattle.sst_cli.specs.Reading.{read_calls}
-use Rattle.sst_cli.specs.Replies.{way_text}
 use Rattle.sst_cli.specs.Refusals.{refusal_text}
+use Rattle.sst_cli.specs.Replies.{way_text}
 use Rattle.sst_cli.specs.Run.{IsFault}
+use Rattle.sst_cli.specs.TableBlocks.{row_blocks_of}
+use Rattle.sst_cli.specs.Words.{out_name, calls_name}
 use Rattle.sst_cli.specs.declared.bbt_fault.BbtFault.{BbtFault}
-use Rattle.sst_cli.specs.declared.refusal.Refusal.{Refusal}
 use Rattle.sst_cli.specs.declared.program.Status.{Status}
+use Rattle.sst_cli.specs.declared.refusal.Refusal.{Refusal}
+use Rattle.sst_cli.proofs.BlocksOpened.{blocks_read-opens, blocks_read-found}
+use Rattle.sst_cli.proofs.FaultsShown.{blocks_read-fault}
+use Rattle.sst_cli.proofs.WayText.{row_blocks-one, stands-text}
 
 -- the text of a file that reads so, where it is told
 pub file_text_is : (file : Option (List ℕ)) (read : Result (List RowBlock) BbtFault) (calls : List Call) (text : List ℕ)
@@ -46,8 +47,7 @@ answered result found read calls text before now faults counted (inr short) is s
 some_read_text : (file : List ℕ) (read : Result (List RowBlock) BbtFault) (calls : List Call) → blocks_read file ≡ read → (text : List ℕ) × IsFileText read calls text
 some_read_text file (Ok read) calls reads =
     let found = blocks_read-found file read reads in
-    let blocks = blocks_in file found.0 found.1 in
-    (way_text blocks calls, (blocks, opens-seqs file found.0 found.1, found.2, refl))
+    (way_text found.0 calls, (found.0, opens-seqs file found.0 found.1, found.2, refl))
 some_read_text file (Err fault) calls reads = (fault_text fault, refl)
 
 pub some_answers_text : (file : Option (List ℕ)) (calls : List Call) → (text : List ℕ) × IsAnswersText file calls text
@@ -70,14 +70,14 @@ input_text_is file None reading text reads is = (reading, is)
 input_text_is file (Some bytes) reading text reads is = subst (λ (r : Result (List Call) Refusal). IsInputText file r text) (sym (reads bytes refl)) is
 
 -- a file that opens was answered by the way of its blocks
-pub answered_way : (result : Status) (file : List ℕ) (entries : List Entry) (opens : Opens file entries) (calls : List Call) (old new : Option Files) (left before now : Option (List ℕ))
+pub answered_way : (result : Status) (file : List ℕ) (blocks : List IndexedBlock) → Opens file blocks → (calls : List Call) (old new : Option Files) (left before now : Option (List ℕ))
     → IsFault result ⊎ (IsAnswered result (blocks_read file) calls before now × (left ≡ Some [])) → new ≡ old
-    → IsFault result ⊎ AnsweredByWay result (blocks_in file entries opens) calls old new left before now
-answered_way result file entries opens calls old new left before now (inl fault) kept = inl fault
-answered_way result file entries opens calls old new left before now (inr found) kept =
-    let reads = blocks_read-opens file entries opens in
-    let is : IsFileText (Ok (row_blocks_of (blocks_in file entries opens))) calls found.0.text = subst (λ (r : Result (List RowBlock) BbtFault). IsFileText r calls found.0.text) reads found.0.is_text in
-    let same = row_blocks-one (blocks_in file entries opens) is.0 (opens-seqs file entries opens) is.1 is.2 in
+    → IsFault result ⊎ AnsweredByWay result blocks calls old new left before now
+answered_way result file blocks opens calls old new left before now (inl fault) kept = inl fault
+answered_way result file blocks opens calls old new left before now (inr found) kept =
+    let reads = blocks_read-opens file blocks opens in
+    let is : IsFileText (Ok (row_blocks_of blocks)) calls found.0.text = subst (λ (r : Result (List RowBlock) BbtFault). IsFileText r calls found.0.text) reads found.0.is_text in
+    let same = row_blocks-one blocks is.0 (opens-seqs file blocks opens) is.1 is.2 in
     inr (record {
       done = found.0.ends ∙ ap file_status reads;
       kept = kept;
@@ -86,33 +86,36 @@ answered_way result file entries opens calls old new left before now (inr found)
     })
 
 -- and one that stands for a list, as the list answers
-pub answered_list : (result : Status) (file : List ℕ) (entries : List Entry) (stands : BlockBased file entries) (calls : List Call) (old new : Option Files) (left before now : Option (List ℕ))
+pub answered_list : (result : Status) (file : List ℕ) (entries : List Entry) → BlockBased file entries → (calls : List Call) (old new : Option Files) (left before now : Option (List ℕ))
     → IsFault result ⊎ (IsAnswered result (blocks_read file) calls before now × (left ≡ Some [])) → new ≡ old
     → IsFault result ⊎ Answered result entries calls old new left before now
 answered_list result file entries stands calls old new left before now found kept =
-    elim (answered_way result file entries stands.opens calls old new left before now found kept) [
+    elim (answered_way result file stands.blocks stands.opens calls old new left before now found kept) [
       | inl fault ↦ inl fault
       | inr way ↦ inr (record { done = way.done; kept = way.kept; read = way.read; printed = way.printed ∙ ap (append_known before) (stands-text file entries stands calls) })
     ]
 
+-- the last bytes of a file are bytes
+last-bytes : (n : ℕ) (file : List ℕ) → IsBytes file → IsBytes (last_bytes n file)
+last-bytes n file bytes = λ (i : ℕ). rw (get_or-drop (length file - n) file i 0) (bytes (length file - n + i))
+
 damage_of : (result : Status) (file : List ℕ) (read : Result (List RowBlock) BbtFault) (calls : List Call) (before now : Option (List ℕ))
-    → IsBytes file → ((entries : List Entry) → Opens file entries → ⊥) → blocks_read file ≡ read
+    → IsBytes file → ((blocks : List IndexedBlock) → Opens file blocks → ⊥) → blocks_read file ≡ read
     → IsAnswered result read calls before now → IsDamaged result file before now
-damage_of result file (Ok blocks) calls before now bytes closed reads found =
-    let some = blocks_read-found file blocks reads in
-    absurd (closed some.0 some.1)
+damage_of result file (Ok read) calls before now bytes closed reads found =
+    let some = blocks_read-found file read reads in absurd (closed some.0 some.1)
 damage_of result file (Err fault) calls before now bytes closed reads found =
     record {
       ends = found.ends;
       fault = fault;
-      first = open_read-fault_of file fault reads;
-      shown = open_read-fault file fault (IsBytes-drop (length file - 53) file bytes) (open_read-fault_of file fault reads);
+      first = reads;
+      shown = blocks_read-fault file fault (last-bytes 53 file bytes) reads;
       printed = found.printed ∙ ap (λ (t : List ℕ). append_known before t) found.is_text;
     }
 
 -- a file that doesn't open was refused with a fault that it shows
 pub answered_damage : (result : Status) (file : List ℕ) (calls : List Call) (left before now : Option (List ℕ))
-    → IsBytes file → ((entries : List Entry) → Opens file entries → ⊥)
+    → IsBytes file → ((blocks : List IndexedBlock) → Opens file blocks → ⊥)
     → IsFault result ⊎ (IsAnswered result (blocks_read file) calls before now × (left ≡ Some []))
     → IsFault result ⊎ IsDamaged result file before now
 answered_damage result file calls left before now bytes closed (inl fault) = inl fault
