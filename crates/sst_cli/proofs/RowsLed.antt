@@ -1,5 +1,5 @@
 -- An index row leads to a data block exactly where the block at its handle is read, with a row at least.
-use Rattle.std.proofs.Common.{◌≡◌, ℕ, ◌^◌, ◌<◌, List, [], ◌∷◌, length, Some, Result, Ok, ap, sym, ◌∙◌, subst, arith}
+use Rattle.std.proofs.Common.{◌≡◌, ℕ, ◌^◌, ◌<◌, List, [], ◌∷◌, length, Some, Result, Ok, refl, ap, sym, ◌∙◌, subst, arith}
 use Rattle.std.proofs.lemmas.List.{append-nil, length-map}
 use Rattle.sst_num.specs.Spelling.{handle_spelling}
 use Rattle.sst_num.specs.Reading.{handle_at}
@@ -44,8 +44,8 @@ led_read-leads file end row entries short leads =
     let fits = handle-fits file end h leads.block short leads.framed in
     let at : RowsAt Entries file end h (rows_of entries) = record { bytes = leads.block; framed = leads.framed; block = leads.rows } in
     let rows = block_at-rows bbt.Frame (bbt.Block h) Entries file end h (rows_of entries) tt at in
-    let data : data_read file end h ≡ Ok (rows_of entries) = ap (λ r. then_open r (with_rows h)) rows ∙ with_rows-some h entries leads.some in
-    let read : data_read file end (handle_of row) ≡ Ok (rows_of entries) = ap (data_read file end) (handle_of-row row h fits.0 fits.1 leads.value) ∙ data in
+    let whole : data_read file end h ≡ Ok (rows_of entries) = ap (λ r. then_open r (with_rows h)) rows ∙ with_rows-some h entries leads.some in
+    let read : data_read file end (handle_of row) ≡ Ok (rows_of entries) = ap (data_read file end) (handle_of-row row h fits.0 fits.1 leads.value) ∙ whole in
     ap (λ (r : Result (List Row) BbtFault). then_open r (λ rows. Ok (led_block row rows))) read
 
 -- a data block that is passed has a row
@@ -81,8 +81,8 @@ led_read-found file end row read is e =
     let same = handle_of-row row h is.1 is.2 is.3 in
     then_open-ok (data_read file end (handle_of row)) (λ rows. Ok (led_block row rows)) read e
     (λ rows first last.
-    let data : data_read file end h ≡ Ok rows = ap (data_read file end) (sym same) ∙ first in
-    then_open-ok (block_at bbt.Frame (bbt.Block h) Entries file end h) (with_rows h) rows data
+    let whole : data_read file end h ≡ Ok rows = ap (data_read file end) (sym same) ∙ first in
+    then_open-ok (block_at bbt.Frame (bbt.Block h) Entries file end h) (with_rows h) rows whole
     (λ inner found passed.
     let parts = with_rows-ok h inner rows passed in
     let at = block_at-found bbt.Frame (bbt.Block h) Entries file end h inner tt found in
