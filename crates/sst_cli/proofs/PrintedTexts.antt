@@ -5,6 +5,7 @@ use Rattle.std.specs.Option.{option_map}
 use Rattle.std.proofs.lemmas.List.{append-nil}
 use Rattle.sst_key.specs.declared.entries.Entry.{Entry}
 use Rattle.sst_cli.specs.Reading.{read_input}
+use Rattle.sst_device.specs.Faults.{Rose}
 use Rattle.sst_device.specs.Folder.{Files}
 use Rattle.sst_cli.specs.Refusals.{refusal_text}
 use Rattle.sst_cli.specs.Run.{IsWriteText, IsFault, HoldsWritten, Wrote, text_for, done_text}
@@ -12,7 +13,7 @@ use Rattle.sst_cli.specs.Printed.{IsPrinted, Prints}
 use Rattle.sst_cli.specs.Words.{WriteLine, write_line, out_name}
 use Rattle.sst_cli.specs.declared.refusal.Refusal.{Refusal}
 use Rattle.sst_cli.specs.declared.program.Status.{Status}
-use Rattle.sst_cli.specs.declared.program.Status.TheVariants.{Done, Input}
+use Rattle.sst_cli.specs.declared.program.Status.TheVariants.{Done, Input, Device}
 
 -- a printed text is whole, or a fault cut it short
 pub some_printed : (result status : Status) (text : List ℕ) (old new : Option (List ℕ)) (before now : ℕ)
@@ -59,6 +60,12 @@ done_printed result count line made entries old new left before now faults count
       printed = whole.printed ∙ ap (λ n. append_known before (done_text n)) (counts ∙ ap length same);
     })
 done_printed result count line made entries old new left before now faults counted (inr short) counts same file read = inl short.ends
+
+-- and where that failed, the sink did
+pub done_cause : (result : Status) (count : ℕ) (before now : Option (List ℕ)) (faults counted : ℕ)
+    → IsPrinted result Done (done_text count) before now faults counted → result ≡ Device → Rose faults counted
+done_cause result count before now faults counted (inl whole) failed = let both = sym whole.ends ∙ failed in cc
+done_cause result count before now faults counted (inr short) failed = short.cause failed
 
 -- a refusal was printed
 pub refusal_printed : (result : Status) (some refusal : Refusal) (before now : Option (List ℕ)) (faults counted : ℕ)
