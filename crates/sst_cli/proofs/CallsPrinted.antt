@@ -1,33 +1,33 @@
 -- Which text a `calls` has, and what was printed of it.
-use Rattle.std.proofs.Common.{◌-◌, ◌+◌, ◌<◌, length, ◌≡◌, ◌⊎◌, ℕ, List, [], ◌∷◌, drop, Option, None, Some, Result, Ok, Err, refl, sym, ap, ◌∙◌, subst, inl, inr}
-use Rattle.std.proofs.lemmas.List.{get_or-drop}
+use Rattle.std.proofs.Common.{◌∷◌, ◌-◌, length, ◌≡◌, ◌⊎◌, ℕ, List, [], Option, None, Some, Result, Ok, Err, refl, sym, ap, ◌∙◌, subst, inl, inr}
 use Rattle.std.proofs.lemmas.List.Elements.{All-nil}
 use Rattle.std.specs.Io.KnownBytes.{append_known}
-use Rattle.hex.specs.Hex.{IsBytes}
 use Rattle.sst_key.specs.declared.entries.Entry.{Entry}
 use Rattle.sst_key.specs.declared.calls.Call.{Call}
-use Rattle.sst_device.specs.Folder.{Files}
-use Rattle.sst_meta.specs.FooterReading.{last_bytes}
 use Rattle.sst_bbt_spec.specs.Rows.{HasSeq}
-use Rattle.sst_bbt_spec.specs.BlockBased.{BlockBased, Opens}
-use Rattle.sst_bbt_spec.specs.Way.{IndexedBlock}
+use Rattle.sst_bbt_spec.specs.BlockBased.{BlockBased}
+use Rattle.hex.specs.Hex.{IsBytes}
+use Rattle.sst_bbt_spec.specs.BlockBased.{Opens}
+use Rattle.sst_device.specs.Folder.{Files}
+use Rattle.sst_cli.specs.Words.{out_name, calls_name}
 use Rattle.sst_bbt_spec.proofs.Stands.{opens-seqs}
+use Rattle.sst_cli.proofs.BlocksOnce.{row_blocks-one, stands-text}
+use Rattle.sst_cli.proofs.BlocksOpened.{blocks_read-opens, blocks_read-found}
+use Rattle.sst_cli.specs.TableBlocks.{row_blocks_of}
+use Rattle.sst_bbt_spec.specs.Way.{IndexedBlock}
+use Rattle.sst_cli.proofs.FaultsShown.{blocks_read-fault}
+use Rattle.sst_meta.proofs.FootersRead.{are_bytes-drop}
 use Rattle.sst_cli.specs.CallsRun.{IsFileText, IsAnswered, Answered, AnsweredByWay, IsDamaged, IsAnswersText, IsInputText, IsCallsText, file_status}
 use Rattle.sst_cli.specs.FaultText.{fault_text}
 use Rattle.sst_cli.specs.Opening.{RowBlock, blocks_read}
 use Rattle.sst_cli.specs.Printed.{IsPrinted}
 use Rattle.sst_cli.specs.Reading.{read_calls}
-use Rattle.sst_cli.specs.Refusals.{refusal_text}
 use Rattle.sst_cli.specs.Replies.{way_text}
+use Rattle.sst_cli.specs.Refusals.{refusal_text}
 use Rattle.sst_cli.specs.Run.{IsFault}
-use Rattle.sst_cli.specs.TableBlocks.{row_blocks_of}
-use Rattle.sst_cli.specs.Words.{out_name, calls_name}
 use Rattle.sst_cli.specs.declared.bbt_fault.BbtFault.{BbtFault}
-use Rattle.sst_cli.specs.declared.program.Status.{Status}
 use Rattle.sst_cli.specs.declared.refusal.Refusal.{Refusal}
-use Rattle.sst_cli.proofs.BlocksOpened.{blocks_read-opens, blocks_read-found}
-use Rattle.sst_cli.proofs.FaultsShown.{blocks_read-fault}
-use Rattle.sst_cli.proofs.WayText.{row_blocks-one, stands-text}
+use Rattle.sst_cli.specs.declared.program.Status.{Status}
 
 -- the text of a file that reads so, where it is told
 pub file_text_is : (file : Option (List ℕ)) (read : Result (List RowBlock) BbtFault) (calls : List Call) (text : List ℕ)
@@ -70,7 +70,7 @@ input_text_is file None reading text reads is = (reading, is)
 input_text_is file (Some bytes) reading text reads is = subst (λ (r : Result (List Call) Refusal). IsInputText file r text) (sym (reads bytes refl)) is
 
 -- a file that opens was answered by the way of its blocks
-pub answered_way : (result : Status) (file : List ℕ) (blocks : List IndexedBlock) → Opens file blocks → (calls : List Call) (old new : Option Files) (left before now : Option (List ℕ))
+pub answered_way : (result : Status) (file : List ℕ) (blocks : List IndexedBlock) (opens : Opens file blocks) (calls : List Call) (old new : Option Files) (left before now : Option (List ℕ))
     → IsFault result ⊎ (IsAnswered result (blocks_read file) calls before now × (left ≡ Some [])) → new ≡ old
     → IsFault result ⊎ AnsweredByWay result blocks calls old new left before now
 answered_way result file blocks opens calls old new left before now (inl fault) kept = inl fault
@@ -86,7 +86,7 @@ answered_way result file blocks opens calls old new left before now (inr found) 
     })
 
 -- and one that stands for a list, as the list answers
-pub answered_list : (result : Status) (file : List ℕ) (entries : List Entry) → BlockBased file entries → (calls : List Call) (old new : Option Files) (left before now : Option (List ℕ))
+pub answered_list : (result : Status) (file : List ℕ) (entries : List Entry) (stands : BlockBased file entries) (calls : List Call) (old new : Option Files) (left before now : Option (List ℕ))
     → IsFault result ⊎ (IsAnswered result (blocks_read file) calls before now × (left ≡ Some [])) → new ≡ old
     → IsFault result ⊎ Answered result entries calls old new left before now
 answered_list result file entries stands calls old new left before now found kept =
@@ -95,21 +95,18 @@ answered_list result file entries stands calls old new left before now found kep
       | inr way ↦ inr (record { done = way.done; kept = way.kept; read = way.read; printed = way.printed ∙ ap (append_known before) (stands-text file entries stands calls) })
     ]
 
--- the last bytes of a file are bytes
-last-bytes : (n : ℕ) (file : List ℕ) → IsBytes file → IsBytes (last_bytes n file)
-last-bytes n file bytes = λ (i : ℕ). rw (get_or-drop (length file - n) file i 0) (bytes (length file - n + i))
-
 damage_of : (result : Status) (file : List ℕ) (read : Result (List RowBlock) BbtFault) (calls : List Call) (before now : Option (List ℕ))
     → IsBytes file → ((blocks : List IndexedBlock) → Opens file blocks → ⊥) → blocks_read file ≡ read
     → IsAnswered result read calls before now → IsDamaged result file before now
-damage_of result file (Ok read) calls before now bytes closed reads found =
-    let some = blocks_read-found file read reads in absurd (closed some.0 some.1)
+damage_of result file (Ok blocks) calls before now bytes closed reads found =
+    let some = blocks_read-found file blocks reads in
+    absurd (closed some.0 some.1)
 damage_of result file (Err fault) calls before now bytes closed reads found =
     record {
       ends = found.ends;
       fault = fault;
       first = reads;
-      shown = blocks_read-fault file fault (last-bytes 53 file bytes) reads;
+      shown = blocks_read-fault file fault (are_bytes-drop (length file - 53) file bytes) reads;
       printed = found.printed ∙ ap (λ (t : List ℕ). append_known before t) found.is_text;
     }
 

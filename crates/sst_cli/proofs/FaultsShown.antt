@@ -1,12 +1,12 @@
 -- A fault that a file reads as is one that it shows.
-use Rattle.std.proofs.Common.{◌≡◌, ℕ, false, List, [], ◌∷◌, Contains, All, Ok, Err, refl, sym, ap, ◌∙◌, subst, inl, inr}
+use Rattle.std.proofs.Common.{◌≡◌, ℕ, false, List, [], ◌∷◌, Contains, All, Err, refl, sym, ap, ◌∙◌, subst, inl, inr}
 use Rattle.std.proofs.lemmas.List.Elements.{All-head, All-tail, All-contains_itself}
 use Rattle.hex.specs.Hex.{IsBytes}
 use Rattle.sst_num.specs.declared.block_handle.Handle.{Handle}
 use Rattle.sst_block.specs.declared.row_form.RowForm.TheVariants.{Entries, Index}
 use Rattle.sst_block.specs.Block.{Row, IsRow, IsHandle}
 use Rattle.sst_meta.specs.BlockFooter.{footer_start}
-use Rattle.sst_meta.specs.Blocks.{then_open, as_fault, block_at}
+use Rattle.sst_meta.specs.Blocks.{as_fault, block_at}
 use Rattle.sst_meta.specs.FooterReading.{last_bytes}
 use Rattle.sst_meta.specs.LoadReading.{load_read}
 use Rattle.sst_meta.proofs.BlocksRead.{RowsAt, block_at-found, block_at-fault}

@@ -69,7 +69,7 @@ pub last_key-append : (entries : List Entry) (e : Entry) → last_key [] (rows_o
 last_key-append entries e = ap (last_key []) (rows_of-append entries e) ∙ last_key-more [] (rows_of entries) (row_of e)
 
 -- each row takes at most the weight of its entry
-rows_of-room : (entries : List Entry) → sum_by row_room (rows_of entries) ≤ weight entries
+pub rows_of-room : (entries : List Entry) → sum_by row_room (rows_of entries) ≤ weight entries
 rows_of-room [] = omega arith
 rows_of-room (e ∷ rest) =
     omega (arith, rows_of-room rest, length-key_of e, sum_by-cons row_room (row_of e) (rows_of rest), sum_by-cons entry_weight e rest)

@@ -1,7 +1,7 @@
 -- The data blocks of a block-based file as a reader keeps them: all entries in one list, and for each block its separator
 -- and where its entries end.
 -- RocksDB: wiki page "Rocksdb BlockBasedTable Format"; table/block_based/block_based_table_reader.cc.
-use Rattle.std.specs.Prelude.{◌≡◌, ℕ, ◌-◌, ◌<◌, ◌≤◌, false, List, [], ◌∷◌, length, map, take, drop, All}
+use Rattle.std.specs.Prelude.{◌≡◌, ℕ, zero, suc, ◌-◌, ◌<◌, ◌≤◌, false, List, [], ◌∷◌, length, map, take, drop, All}
 use Rattle.sst_key.specs.declared.entries.Entry.{Entry}
 use Rattle.sst_key.specs.Entry.{IsOrdered}
 use Rattle.sst_block.specs.declared.row_form.RowForm.TheVariants.{Index}
@@ -37,6 +37,12 @@ blocks_of table = blocks_from 0 table.ends table.entries
 abbrev pub AreEnds : ℕ → List BlockEnd → ℕ → Type 0
 AreEnds start [] count = start ≡ count
 AreEnds start (b ∷ rest) count = (start < b.end) × (b.end ≤ count) × AreEnds b.end rest count
+
+-- where the i-th of the blocks begins, the first of which begins at `start`
+abbrev pub start_at : ℕ → List BlockEnd → ℕ → ℕ
+start_at start ends zero = start
+start_at start [] (suc i) = start
+start_at start (b ∷ rest) (suc i) = start_at b.end rest i
 
 -- the separators as the keys of index rows
 abbrev pub separator_rows : List BlockEnd → List Row

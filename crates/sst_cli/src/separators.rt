@@ -1,5 +1,5 @@
 //! How the separator of a data block stands to a target.
-ghost use Rattle.std.specs.Prelude.{◌≡◌, ◌≤◌, length};
+ghost use Rattle.std.specs.Prelude.{◌≡◌, ◌≤◌, false, if◌then◌else◌, nat_lt, length};
 ghost use Rattle.sst_key.specs.InternalKey.{user_of, tag_of};
 ghost use Rattle.sst_bbt_spec.specs.Way.{is_separator_before, seek_tag, seek_for_prev_tag};
 
@@ -21,13 +21,16 @@ fn parts(key: &[u8]) -> (&[u8], u64)
     (user, fixed64(tag))
 }
 
-/// The separator is before the target of a Seek or a Get, which has the greatest tag of its sequence number.
+/// The separator is before the target of a Seek or a Get, which has the greatest tag of its sequence number. What is
+/// too short for a stored key is before none.
 ///
 /// RocksDB: `InternalKeyComparator::Compare` in db/dbformat.h, with `kValueTypeForSeek`.
 pub fn is_before_seek(separator: &[u8], user: &[u8], seq: u64) -> bool
-    requires { 8 ≤ length separator.now }
-    ensures { result ≡ is_separator_before user.now (seek_tag seq) separator.now }
+    ensures { result ≡ (if nat_lt (length separator.now) 8 then false else is_separator_before user.now (seek_tag seq) separator.now) }
 {
+    if separator.len() < TAG_LENGTH {
+        return false;
+    }
     let (own, tag) = parts(separator);
     match own.cmp(user) {
         Ordering::Less => true,
@@ -36,13 +39,16 @@ pub fn is_before_seek(separator: &[u8], user: &[u8], seq: u64) -> bool
     }
 }
 
-/// The separator is before the target of a SeekForPrev, which has the least tag of its sequence number.
+/// The separator is before the target of a SeekForPrev, which has the least tag of its sequence number. What is too
+/// short for a stored key is before none.
 ///
 /// RocksDB: `InternalKeyComparator::Compare` in db/dbformat.h, with `kValueTypeForSeekForPrev`.
 pub fn is_before_seek_for_prev(separator: &[u8], user: &[u8], seq: u64) -> bool
-    requires { 8 ≤ length separator.now }
-    ensures { result ≡ is_separator_before user.now (seek_for_prev_tag seq) separator.now }
+    ensures { result ≡ (if nat_lt (length separator.now) 8 then false else is_separator_before user.now (seek_for_prev_tag seq) separator.now) }
 {
+    if separator.len() < TAG_LENGTH {
+        return false;
+    }
     let (own, tag) = parts(separator);
     match own.cmp(user) {
         Ordering::Less => true,

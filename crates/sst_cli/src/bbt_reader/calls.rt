@@ -4,7 +4,7 @@ ghost use Rattle.std.specs.Option.{is_some};
 ghost use Rattle.sst_key.specs.Entry.{entry_of};
 ghost use Rattle.sst_key.specs.ListMachine as machine;
 ghost use Rattle.sst_cli.specs.Cursors.{Belongs, Comes, lent};
-ghost use Rattle.sst_cli.specs.TableBlocks.{blocks_of};
+ghost use Rattle.sst_cli.specs.TableBlocks.{blocks_of, start_at};
 ghost use Rattle.sst_bbt_spec.specs.Way.{is_separator_before, seek_tag, seek_for_prev_tag, way_seek, way_get, way_seek_for_prev};
 
 use crate::bbt_reader::BbtReader;
@@ -72,7 +72,10 @@ impl BbtReader {
     }
 
     /// Where the entries of a block begin. `i` is below the number of blocks.
-    fn start_of(&self, i: usize) -> usize {
+    fn start_of(&self, i: usize) -> usize
+        requires { i < length self.now.ends }
+        ensures { result ≡ start_at 0 self.now.ends i }
+    {
         match i.checked_sub(1) {
             None => 0,
             Some(before) => self.ends[before].end,

@@ -1,15 +1,12 @@
-use Rattle.std.proofs.Common.{rules, ◌≡◌, ◌≤◌, false, length, count_by, All, ℕ, ◌+◌, ◌-◌, ◌*◌, ◌<◌, ◌/◌, ◌%◌, Bool, true, nat_eq, nat_lt, List, [], ◌∷◌, ◌++◌, slice_index_or, slice_set, bit_and, bit_or, Fits, w8, w32, w64, Bor, MutBor}
-use Rattle.sst_block.specs.Block.{AreOrdered}
-use Rattle.sst_block.specs.declared.row_form.RowForm.TheVariants.{Index}
-use Rattle.sst_bbt_spec.specs.Way.{is_separator_before, seek_tag, seek_for_prev_tag}
-use Rattle.sst_cli.specs.TableBlocks.{separator_rows}
-use Rattle.sst_cli.specs.declared.bbt_reader.BlockEnd as ends
+use Rattle.std.proofs.Common.{rules}
+use Rattle.std.proofs.lemmas.List.Sorted.{IsPartitionPoint-from_clause}
+use Rattle.sst_bbt_spec.specs.Way.{seek_tag}
+use Rattle.sst_cli.proofs.BlockSearch.{is_stored_before, blocks-parted, blocks-count}
 use Rattle.sst_cli.proofs.block_search.blocks_before_seek.Goals as goal
 
--- src/block_search.rt:18:5
-pub partition_point-requires : goal.partition_point-requires
-partition_point-requires c = ?
-
--- src/block_search.rt:13:1
 pub returns : goal.returns
-returns c = ?
+returns c =
+    let t = seek_tag c.args.seq in
+    let parted = blocks-parted c.args.user.now t c.args.blocks.now c.requires.long c.requires.ordered in
+    let point = IsPartitionPoint-from_clause (is_stored_before c.args.user.now t) _ _ c.partition_point.ensures.partitioned parted (λ a r q k. search rules) in
+    blocks-count c.args.user.now t _ _ c.requires.long c.partition_point.ensures.bound point

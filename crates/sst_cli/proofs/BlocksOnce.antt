@@ -1,9 +1,9 @@
--- What the blocks of a file answer is told by what they read as; where the file stands for a list, the text is the list's.
+-- The blocks as they are read tell the blocks, and of a file that stands for a list the text of the answers is the list's.
 use Rattle.std.proofs.Common.{◌≡◌, ℕ, List, [], ◌∷◌, All, refl, ap, ◌∙◌}
 use Rattle.sst_key.specs.declared.entries.Entry.{Entry}
 use Rattle.sst_key.specs.declared.calls.Call.{Call}
-use Rattle.sst_bbt_spec.specs.Rows.{HasSeq, rows_of}
 use Rattle.sst_bbt_spec.specs.BlockBased.{BlockBased}
+use Rattle.sst_bbt_spec.specs.Rows.{HasSeq, rows_of}
 use Rattle.sst_bbt_spec.specs.Way.{IndexedBlock, joined, way_replies}
 use Rattle.sst_bbt_spec.proofs.EntriesOfRows.{rows_of-one}
 use Rattle.sst_bbt_spec.proofs.Stands.{stands-replies}
@@ -12,7 +12,7 @@ use Rattle.sst_cli.specs.Opening.{RowBlock}
 use Rattle.sst_cli.specs.Replies.{lines_of, answers_from, answers_text, way_from, way_text}
 use Rattle.sst_cli.specs.TableBlocks.{row_block_of, row_blocks_of}
 
--- where a file stands for a list, the text of the answers is that of the list's
+-- the text of the answers is that of the list's
 pub stands-text : (file : List ℕ) (entries : List Entry) (stands : BlockBased file entries) (calls : List Call)
     → way_text stands.blocks calls ≡ answers_text entries calls
 unfolding way_from answers_from
@@ -20,11 +20,12 @@ stands-text file entries stands calls =
     ap (λ (es : List Entry). lines_of es calls (way_replies stands.blocks calls)) stands.runs.joined_is
     ∙ ap (lines_of entries calls) (stands-replies file entries stands calls)
 
--- the blocks as they are read tell the blocks
+-- a block from its parts
 block-made : (a b : List ℕ) (xs ys : List Entry) → a ≡ b → xs ≡ ys
     → ◌≡◌ {A = IndexedBlock} (record { separator = a; entries = xs }) (record { separator = b; entries = ys })
 block-made a b xs ys same are = rw (same, are) refl
 
+-- the blocks as they are read tell the blocks
 pub row_blocks-one : (a b : List IndexedBlock) → All HasSeq (joined a) → All HasSeq (joined b) → row_blocks_of a ≡ row_blocks_of b → a ≡ b
 row_blocks-one [] [] seqs_a seqs_b same = refl
 row_blocks-one [] (y ∷ b) seqs_a seqs_b same = cc
