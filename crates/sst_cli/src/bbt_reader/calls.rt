@@ -1,16 +1,17 @@
 //! The calls of a reader: a cursor that moves over the list of its entries.
-ghost use Rattle.std.specs.Prelude.{◌≡◌, ℕ, ◌<◌, List, length, Option, None, Some, option_and_then, slice_get};
+ghost use Rattle.std.specs.Prelude.{◌≡◌, ℕ, ◌-◌, ◌<◌, List, length, take, drop, Option, None, Some, option_and_then, slice_get};
 ghost use Rattle.std.specs.Option.{is_some};
 ghost use Rattle.sst_key.specs.Entry.{entry_of};
 ghost use Rattle.sst_key.specs.ListMachine as machine;
 ghost use Rattle.sst_cli.specs.Cursors.{Belongs, Comes, lent};
 ghost use Rattle.sst_cli.specs.TableBlocks.{blocks_of, start_at};
+ghost use Rattle.sst_cli.specs.declared.bbt_reader.BlockEnd.{BlockEnd};
 ghost use Rattle.sst_bbt_spec.specs.Way.{is_separator_before, seek_tag, seek_for_prev_tag, way_seek, way_get, way_seek_for_prev};
 
 use crate::bbt_reader::BbtReader;
 use crate::block_search::{blocks_before_seek, blocks_before_seek_for_prev};
 use crate::list_search::{below, up_to};
-use sst_key::{EntryView, Reply};
+use sst_key::{Entry, EntryView, Reply};
 use std::marker::Model;
 
 /// Where one walk over a reader stands. Contracts see the number of the entry, or None for nowhere.
@@ -82,6 +83,18 @@ impl BbtReader {
         }
     }
 
+    /// Where the entries of a block begin, and the entries. `i` is below the number of blocks.
+    fn block(&self, i: usize) -> (usize, &[Entry])
+        requires { i < length self.now.ends }
+        ensures start { result.0 ≡ start_at 0 self.now.ends i }
+        ensures entries { (b : BlockEnd) → slice_get self.now.ends i ≡ Some b
+            → result.1.now ≡ take (b.end - result.0) (drop result.0 self.now.entries) }
+    {
+        let start = self.start_of(i);
+        let end = self.ends[i].end;
+        (start, &self.entries[start..end])
+    }
+
     /// Where Seek lands: the separators lead to a block, in which its entries are halved, or past all blocks.
     fn seek_place(&self, user: &[u8], seq: u64) -> Option<usize>
         ensures place { result ≡ way_seek (blocks_of self.now) user.now seq }
@@ -89,8 +102,7 @@ impl BbtReader {
     {
         let i = blocks_before_seek(&self.ends, user, seq);
         if i < self.ends.len() {
-            let start = self.start_of(i);
-            let block = &self.entries[start..self.ends[i].end];
+            let (start, block) = self.block(i);
             self.place_in(start + below(block, user, seq))
         } else {
             None
@@ -104,8 +116,7 @@ impl BbtReader {
     {
         let i = blocks_before_seek_for_prev(&self.ends, user, seq);
         if i < self.ends.len() {
-            let start = self.start_of(i);
-            let block = &self.entries[start..self.ends[i].end];
+            let (start, block) = self.block(i);
             (start + up_to(block, user, seq)).checked_sub(1)
         } else {
             self.entries.len().checked_sub(1)
