@@ -1,16 +1,19 @@
 -- What was printed of a text, and which text a `write` has.
 use Rattle.std.proofs.Common.{◌≡◌, ◌⊎◌, ℕ, List, [], length, Option, None, Some, Result, Ok, Err, refl, sym, ap, ◌∙◌, subst, inl, inr}
 use Rattle.std.specs.Io.KnownBytes.{append_known}
+use Rattle.std.specs.Option.{option_map}
 use Rattle.std.proofs.lemmas.List.{append-nil}
 use Rattle.sst_key.specs.declared.entries.Entry.{Entry}
 use Rattle.sst_cli.specs.Reading.{read_input}
+use Rattle.sst_device.specs.Faults.{Rose}
 use Rattle.sst_device.specs.Folder.{Files}
 use Rattle.sst_cli.specs.Refusals.{refusal_text}
 use Rattle.sst_cli.specs.Run.{IsWriteText, IsFault, HoldsWritten, Wrote, text_for, done_text}
 use Rattle.sst_cli.specs.Printed.{IsPrinted, Prints}
+use Rattle.sst_cli.specs.Words.{WriteLine, write_line, out_name}
 use Rattle.sst_cli.specs.declared.refusal.Refusal.{Refusal}
 use Rattle.sst_cli.specs.declared.program.Status.{Status}
-use Rattle.sst_cli.specs.declared.program.Status.TheVariants.{Done, Input}
+use Rattle.sst_cli.specs.declared.program.Status.TheVariants.{Done, Input, Device}
 
 -- a printed text is whole, or a fault cut it short
 pub some_printed : (result status : Status) (text : List ℕ) (old new : Option (List ℕ)) (before now : ℕ)
@@ -46,17 +49,23 @@ pub not_both : (reading : Result (List Entry) Refusal) (entries : List Entry) (r
 not_both reading entries refusal a b = let both = sym a ∙ b in cc
 
 -- the file stands there and its text was printed
-pub done_printed : (result : Status) (count : ℕ) (name : List ℕ) (made entries : List Entry) (old new : Option Files) (left before now : Option (List ℕ)) (faults counted : ℕ)
+pub done_printed : (result : Status) (count : ℕ) (line : WriteLine) (made entries : List Entry) (old new : Option Files) (left before now : Option (List ℕ)) (faults counted : ℕ)
     → IsPrinted result Done (done_text count) before now faults counted → count ≡ length made → made ≡ entries
-    → HoldsWritten name made old new → left ≡ Some [] → IsFault result ⊎ Wrote result name entries old new left before now
-done_printed result count name made entries old new left before now faults counted (inl whole) counts same file read =
+    → HoldsWritten line made old new → left ≡ Some [] → IsFault result ⊎ Wrote result line entries old new left before now
+done_printed result count line made entries old new left before now faults counted (inl whole) counts same file read =
     inr (record {
       done = whole.ends;
-      file = subst (λ (es : List Entry). HoldsWritten name es old new) same file;
+      file = subst (λ (es : List Entry). HoldsWritten line es old new) same file;
       read = read;
       printed = whole.printed ∙ ap (λ n. append_known before (done_text n)) (counts ∙ ap length same);
     })
-done_printed result count name made entries old new left before now faults counted (inr short) counts same file read = inl short.ends
+done_printed result count line made entries old new left before now faults counted (inr short) counts same file read = inl short.ends
+
+-- and where that failed, the sink did
+pub done_cause : (result : Status) (count : ℕ) (before now : Option (List ℕ)) (faults counted : ℕ)
+    → IsPrinted result Done (done_text count) before now faults counted → result ≡ Device → Rose faults counted
+done_cause result count before now faults counted (inl whole) failed = let both = sym whole.ends ∙ failed in cc
+done_cause result count before now faults counted (inr short) failed = short.cause failed
 
 -- a refusal was printed
 pub refusal_printed : (result : Status) (some refusal : Refusal) (before now : Option (List ℕ)) (faults counted : ℕ)
@@ -66,6 +75,14 @@ refusal_printed result some refusal before now faults counted (inl whole) same =
     inr (whole.ends, whole.printed ∙ ap (λ (r : Refusal). append_known before (refusal_text r)) same)
 refusal_printed result some refusal before now faults counted (inr short) same = inl short.ends
 
--- the name that the words give is one
-pub named : (some name : List ℕ) (given : Option (List ℕ)) → Some some ≡ given → given ≡ Some name → some ≡ name
-named some name given a b = let both = a ∙ b in cc
+-- what the words give is one
+pub named : {A : Type 0} (some other : A) (given : Option A) → Some some ≡ given → given ≡ Some other → some ≡ other
+named some other given a b = let both = a ∙ b in cc
+
+-- the name in the `write` that the words are is their OUT
+pub line_out : (line : WriteLine) (words : List (List ℕ)) → Some line ≡ write_line words → Some line.name ≡ out_name words
+line_out line words given = ap (λ (o : Option WriteLine). option_map (λ (l : WriteLine). l.name) o) given
+
+-- words that are no `write` have no OUT
+pub no_out : (words : List (List ℕ)) → None ≡ write_line words → None ≡ out_name words
+no_out words given = ap (λ (o : Option WriteLine). option_map (λ (l : WriteLine). l.name) o) given

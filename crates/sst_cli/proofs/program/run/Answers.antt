@@ -7,22 +7,30 @@ use Rattle.sst_cli.specs.Run.{usage_text}
 use Rattle.sst_cli.proofs.CallRoundTrip.{read_calls-text}
 use Rattle.sst_cli.proofs.CallsPrinted.{answered_list, answered_way, answered_damage, only_out}
 use Rattle.sst_cli.proofs.ListRoundTrip.{read_input-lines}
-use Rattle.sst_cli.proofs.PrintedTexts.{some_printed, named}
+use Rattle.sst_cli.proofs.PrintedTexts.{some_printed, named, line_out, no_out}
 use Rattle.sst_cli.proofs.program.run.Goals as goal
 
 pub returns-in-Some-clause-headline_write : goal.returns-in-Some-clause-headline_write
-returns-in-Some-clause-headline_write g c = λ name entries words fits bytes left.
-    let same = named c.in-Some.name.now name _ c.in-Some.ensures words in
+returns-in-Some-clause-headline_write g c = λ write entries words fits bytes left.
+    let same = named (record { name = c.in-Some.line.name.now; options = c.in-Some.line.options }) write _ c.in-Some.ensures words in
     let written = c.write.ensures.written (lines_text entries) entries left (read_input-lines entries fits bytes) in
+    rw same at written
+
+pub returns-in-Some-clause-written : goal.returns-in-Some-clause-written
+returns-in-Some-clause-written g c = λ write text entries words left reads.
+    let same = named (record { name = c.in-Some.line.name.now; options = c.in-Some.line.options }) write _ c.in-Some.ensures words in
+    let written = c.write.ensures.written text entries left reads in
     rw same at written
 
 pub returns-in-Some-clause-answered_as_list : goal.returns-in-Some-clause-answered_as_list
 returns-in-Some-clause-answered_as_list g c = λ name file text entries calls words held stands left reads.
-    only_out (map string_bytes c.args.words.now) c.in-Some.name.now name _ c.in-Some.ensures words
+    let given = map string_bytes c.args.words.now in
+    only_out given c.in-Some.line.name.now name _ (line_out _ given c.in-Some.ensures) words
 
 pub returns-in-Some-clause-answered : goal.returns-in-Some-clause-answered
 returns-in-Some-clause-answered g c = λ name file text blocks opens calls words held left reads.
-    only_out (map string_bytes c.args.words.now) c.in-Some.name.now name _ c.in-Some.ensures words
+    let given = map string_bytes c.args.words.now in
+    only_out given c.in-Some.line.name.now name _ (line_out _ given c.in-Some.ensures) words
 
 pub returns-in-Some-calls_name-clause-headline_calls : goal.returns-in-Some-calls_name-clause-headline_calls
 returns-in-Some-calls_name-clause-headline_calls g c = λ name file entries calls words held stands few limits bytes left.
@@ -59,14 +67,14 @@ returns-in-None-calls_name-clause-printed g c =
     let left = g.I.Intake.left c.args.input.now in
     let no_name = subst (λ (o : Option (List ℕ)). IsOtherText held left o usage_text) c.in-None-calls_name.ensures refl in (
       usage_text,
-      subst (λ (o : Option (List ℕ)). IsTextFor words held left o usage_text) c.in-None.ensures no_name,
+      subst (λ (o : Option (List ℕ)). IsTextFor words held left o usage_text) (no_out words c.in-None.ensures) no_name,
       some_printed c.print.result _ usage_text (g.O.Sink.written c.args.out.now) (g.O.Sink.written c.print.new.out) (g.O.Sink.faults c.args.out.now) (g.O.Sink.faults c.print.new.out) printed,
     )
 
 pub returns-in-Some-clause-input_only : goal.returns-in-Some-clause-input_only
 returns-in-Some-clause-input_only g c = λ is text left.
     let found = c.write.ensures.input is text left in
-    inl (c.in-Some.name.now, found.0, sym c.in-Some.ensures, found.1)
+    inl (c.in-Some.line.name.now, found.0, sym (line_out _ (map string_bytes c.args.words.now) c.in-Some.ensures), found.1)
 
 pub returns-in-Some-calls_name-clause-input_only : goal.returns-in-Some-calls_name-clause-input_only
 returns-in-Some-calls_name-clause-input_only g c = λ is text left.
@@ -75,7 +83,8 @@ returns-in-Some-calls_name-clause-input_only g c = λ is text left.
 
 pub returns-in-Some-clause-done_only : goal.returns-in-Some-clause-done_only
 returns-in-Some-clause-done_only g c = λ is name file words held.
-    only_out (map string_bytes c.args.words.now) c.in-Some.name.now name _ c.in-Some.ensures words
+    let given = map string_bytes c.args.words.now in
+    only_out given c.in-Some.line.name.now name _ (line_out _ given c.in-Some.ensures) words
 
 pub returns-in-Some-calls_name-clause-done_only : goal.returns-in-Some-calls_name-clause-done_only
 returns-in-Some-calls_name-clause-done_only g c = λ is name file words held.
