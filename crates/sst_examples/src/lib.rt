@@ -50,3 +50,5 @@ mod lists;
 mod one_block;
 #[cfg(test)]
 mod worked_run;
+#[cfg(test)]
+mod written_file;
