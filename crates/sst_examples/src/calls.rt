@@ -7,20 +7,32 @@
 //! choose in a block is in table/block_based/block_builder.cc.
 use crate::one_block::bare_file;
 use crate::worked_run::{
-    NAME, answered, holds, other_is_as_it_was, printed, put_hex, still_to_come, written,
+    NAME, Ran, answered, holds, other_is_as_it_was, printed, put_hex, still_to_come, written,
+    written_with,
 };
 use sst_cli::Status;
 use std::alloc::Global;
 use std::process::Abort;
 use std::test::Fail;
 
-/// The file that is written for these lines.
-pub(crate) fn file_of_lines(alloc: Global, lines: &str) -> Result<Vec<u8>, Fail> {
-    let ran = written(alloc, lines.as_bytes())?;
+/// The file that a run left, or no byte where it left none.
+fn file_left(alloc: Global, ran: &Ran) -> Result<Vec<u8>, Fail> {
     match ran.folder.file(NAME) {
         Some(file) => Ok(Vec::from_slice(alloc, file)?),
         None => Ok(Vec::new(alloc)),
     }
+}
+
+/// The file that is written for these lines.
+pub(crate) fn file_of_lines(alloc: Global, lines: &str) -> Result<Vec<u8>, Fail> {
+    let ran = written(alloc, lines.as_bytes())?;
+    file_left(alloc, &ran)
+}
+
+/// The file that is written for these lines with this option.
+pub(crate) fn file_in_blocks(alloc: Global, option: &str, lines: &str) -> Result<Vec<u8>, Fail> {
+    let ran = written_with(alloc, option, lines.as_bytes())?;
+    file_left(alloc, &ran)
 }
 
 /// Asserts that the calls are answered from the file with this text, that the input is read to its end, and that no

@@ -183,7 +183,7 @@ fn three_versions_of_a_key(rt: HostRuntime) -> Result<(), Fail> {
 }
 
 /// The lines of a list with so many of the keys 6b00, 6b01 and so on, and the values 40, 41 and so on.
-fn numbered_lines(alloc: Global, count: u8) -> Result<Vec<u8>, Fail> {
+pub(crate) fn numbered_lines(alloc: Global, count: u8) -> Result<Vec<u8>, Fail> {
     let mut text = Vec::new(alloc);
     for number in 0..count {
         let value = number | 0x40;

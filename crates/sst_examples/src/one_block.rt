@@ -112,6 +112,11 @@ fn file_of(alloc: Global, parts: &OneEntry, behind: &Behind) -> Result<Vec<u8>, 
     Ok(file)
 }
 
+/// The file that is written for the line `61 1 P 78`.
+pub(crate) fn written_file(alloc: Global) -> Result<Vec<u8>, Fail> {
+    file_of(alloc, &ONE_ENTRY, &BEHIND_ENTRY)
+}
+
 /// The file of the line `61 1 P 78` without properties, as it was written before there were any: 119 bytes. Its
 /// metaindex of 8 bytes stands at 53, and has no row.
 pub(crate) fn bare_file(alloc: Global) -> Result<Vec<u8>, Fail> {
@@ -265,7 +270,7 @@ fn run_failing(alloc: Global, object: Object, number: u64) -> Result<Ran, Fail> 
 
 #[test]
 fn each_failing_call(rt: HostRuntime) -> Result<(), Fail> {
-    let file = file_of(rt.alloc(), &ONE_ENTRY, &BEHIND_ENTRY)?;
+    let file = written_file(rt.alloc())?;
     // The folder begins the file and adds to it; the input gives its line and its end; the output is put one text.
     for (object, calls) in [(Object::Folder, 2), (Object::Intake, 2), (Object::Sink, 1)] {
         for number in 1..=calls {

@@ -79,7 +79,11 @@ pub(crate) fn put_behind(alloc: Global, file: &mut Vec<u8>, behind: &Behind) -> 
     put_properties(alloc, file, behind)?;
     put_hex(alloc, file, &[END, behind.checksum])?;
     put_row(alloc, file, "0012", "rocksdb.properties", behind.handle)?;
-    put_hex(alloc, file, &[END, behind.metaindex_checksum, behind.footer])?;
+    put_hex(
+        alloc,
+        file,
+        &[END, behind.metaindex_checksum, behind.footer],
+    )?;
     // The front of the footer is filled with zeros up to 41 bytes; then come the version and the magic number.
     let filled = behind.footer.len() / 2;
     let zeros = vec![in alloc; 0; 41usize.saturating_sub(filled)]?;
