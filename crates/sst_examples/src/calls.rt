@@ -333,7 +333,7 @@ static FOREIGN: [&[&str]; 6] = [
 ];
 
 /// Calls on that list, and their answers.
-static ON_SHARING: [(&str, &str); 3] = [
+pub(crate) static ON_SHARING: [(&str, &str); 3] = [
     (
         "first\nnext\nnext\nnext\nnext\nnext\nnext\n",
         "616161 9 P 31\n616161 5 D -\n616162 3 M 32\n6162 7 S -\n6162 1 P 33\nnone\nnot-positioned\n",
