@@ -38,7 +38,7 @@
 //!
 //! # An example
 //!
-//! `write block OUT` with the input `61 1 P 78` and LF prints `wrote 1` and LF, and leaves a file of 119
+//! `write block OUT` with the input `61 1 P 78` and LF prints `wrote 1` and LF, and leaves a file of 402
 //! bytes:
 //!
 //! ```text
@@ -50,12 +50,21 @@
 //!                                                  21 bytes at 0,
 //!  40  00 00 00 00 01 00 00 00                     and one restart
 //!  48  00 36 49 25 bf                              its trailer
-//!  53  00 00 00 00 01 00 00 00                     the metaindex block: no row, and one restart
-//!  61  00 c0 f2 a1 b0                              its trailer
-//!  66  01 35 08 1a 16                              the footer: the checksum type, the metaindex of 8 bytes
-//!                                                  at 53, the index of 22 bytes at 26,
-//!  71  00 .. 00                                    36 zeros,
-//! 107  02 00 00 00 f7 cf f4 85 b7 41 e2 88         the version and the magic number
+//!  53  00 24 04 72 6f .. 70 65 00 00 00 00         the properties block: `rocksdb.block.based.table.index.type`
+//!                                                  is 0,
+//!  96  08 0a 1a 63 6f .. 74 6f 72                  and of `rocksdb.comparator` the first 8 bytes are shared;
+//!                                                  ten more, up to
+//! 285  0c 0a 01 76 61 6c 75 65 2e 73 69 7a 65 01   `rocksdb.raw.value.size`, which is 1,
+//! 299  00 00 00 00 01 00 00 00                     and one restart
+//! 307  00 b9 6d 74 e7                              its trailer
+//! 312  00 12 03 72 6f .. 65 73 35 fe 01            the metaindex block: `rocksdb.properties` leads to the block
+//!                                                  of 254 bytes at 53,
+//! 336  00 00 00 00 01 00 00 00                     and one restart
+//! 344  00 af b0 0b d0                              its trailer
+//! 349  01 b8 02 20 1a 16                           the footer: the checksum type, the metaindex of 32 bytes
+//!                                                  at 312, the index of 22 bytes at 26,
+//! 355  00 .. 00                                    35 zeros,
+//! 390  02 00 00 00 f7 cf f4 85 b7 41 e2 88         the version and the magic number
 //! ```
 //!
 //! `calls OUT` with the lines `get 61 1`, `get 61 0`, `first` and `next` prints `61 1 P 78`, `none`, `61 1 P 78` and

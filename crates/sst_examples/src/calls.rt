@@ -5,22 +5,34 @@
 //!
 //! RocksDB: `DB::Get` in include/rocksdb/db.h and `Iterator` in include/rocksdb/iterator.h; what other writers may
 //! choose in a block is in table/block_based/block_builder.cc.
-use crate::one_block::{ONE_ENTRY, file_of};
+use crate::one_block::bare_file;
 use crate::worked_run::{
-    NAME, answered, holds, other_is_as_it_was, printed, put_hex, still_to_come, written,
+    NAME, Ran, answered, holds, other_is_as_it_was, printed, put_hex, still_to_come, written,
+    written_with,
 };
 use sst_cli::Status;
 use std::alloc::Global;
 use std::process::Abort;
 use std::test::Fail;
 
-/// The file that is written for these lines.
-pub(crate) fn file_of_lines(alloc: Global, lines: &str) -> Result<Vec<u8>, Fail> {
-    let ran = written(alloc, lines.as_bytes())?;
+/// The file that a run left, or no byte where it left none.
+fn file_left(alloc: Global, ran: &Ran) -> Result<Vec<u8>, Fail> {
     match ran.folder.file(NAME) {
         Some(file) => Ok(Vec::from_slice(alloc, file)?),
         None => Ok(Vec::new(alloc)),
     }
+}
+
+/// The file that is written for these lines.
+pub(crate) fn file_of_lines(alloc: Global, lines: &str) -> Result<Vec<u8>, Fail> {
+    let ran = written(alloc, lines.as_bytes())?;
+    file_left(alloc, &ran)
+}
+
+/// The file that is written for these lines with this option.
+pub(crate) fn file_in_blocks(alloc: Global, option: &str, lines: &str) -> Result<Vec<u8>, Fail> {
+    let ran = written_with(alloc, option, lines.as_bytes())?;
+    file_left(alloc, &ran)
 }
 
 /// Asserts that the calls are answered from the file with this text, that the input is read to its end, and that no
@@ -43,9 +55,9 @@ pub(crate) fn assert_answered(
 
 #[test]
 fn the_worked_example(rt: HostRuntime) -> Result<(), Fail> {
-    let stored = file_of(rt.alloc(), &ONE_ENTRY)?;
+    let bare = bare_file(rt.alloc())?;
     let written = file_of_lines(rt.alloc(), "61 1 P 78\n")?;
-    for file in [&stored, &written] {
+    for file in [&bare, &written] {
         let calls = "get 61 1\nget 61 0\nfirst\nnext\n";
         let text = "61 1 P 78\nnone\n61 1 P 78\nnone\n";
         assert_answered(&rt, rt.alloc(), file, calls, text)?;
@@ -76,7 +88,7 @@ fn the_empty_list(rt: HostRuntime) -> Result<(), Fail> {
     Ok(())
 }
 
-/// The file of examples/seventeen.txt.
+/// The file of examples/seventeen.txt without properties.
 static SEVENTEEN: [&str; 30] = [
     "000a016b01010100000000000076",
     "01090102010200000000000076",
@@ -156,12 +168,12 @@ static ON_SEVENTEEN: [(&str, &str); 6] = [
 
 #[test]
 fn seventeen_entries(rt: HostRuntime) -> Result<(), Fail> {
-    let mut stored = Vec::new(rt.alloc());
-    put_hex(rt.alloc(), &mut stored, &SEVENTEEN)?;
+    let mut bare = Vec::new(rt.alloc());
+    put_hex(rt.alloc(), &mut bare, &SEVENTEEN)?;
     let lines = seventeen_lines(rt.alloc())?;
     let written = file_of_lines(rt.alloc(), lines.as_str())?;
     for (calls, text) in ON_SEVENTEEN {
-        assert_answered(&rt, rt.alloc(), &stored, calls, text)?;
+        assert_answered(&rt, rt.alloc(), &bare, calls, text)?;
         assert_answered(&rt, rt.alloc(), &written, calls, text)?;
     }
     Ok(())
@@ -321,7 +333,7 @@ static FOREIGN: [&[&str]; 6] = [
 ];
 
 /// Calls on that list, and their answers.
-static ON_SHARING: [(&str, &str); 3] = [
+pub(crate) static ON_SHARING: [(&str, &str); 3] = [
     (
         "first\nnext\nnext\nnext\nnext\nnext\nnext\n",
         "616161 9 P 31\n616161 5 D -\n616162 3 M 32\n6162 7 S -\n6162 1 P 33\nnone\nnot-positioned\n",

@@ -1,17 +1,18 @@
-//! Calls answered from a written file as a plain count over its list answers them.
+//! Calls answered from written files, of one data block and of many, as a plain count over their list answers them.
 //!
 //! The count is [`sst_key::answer`], which goes through the whole list at each call. The list has several versions of
 //! most user keys, and the calls have every target around them.
 //!
 //! RocksDB: `DB::Get` in include/rocksdb/db.h and `Iterator` in include/rocksdb/iterator.h.
-use crate::calls::{assert_answered, file_of_lines};
+use crate::calls::{assert_answered, file_in_blocks};
 use sst_key::{Answer, Call, Entry, Format, Kind, Reply, Target, answer};
 use sst_num::Bytes;
 use std::alloc::Global;
+use std::process::Abort;
 use std::test::Fail;
 
 /// User keys in order: the digits and the bytes of each. The list has none of the last but one.
-static USERS: [(&str, &[u8]); 11] = [
+static USERS: [(&str, &[u8]); 13] = [
     ("-", &[]),
     ("00", &[0x00]),
     ("0000", &[0x00, 0x00]),
@@ -20,13 +21,15 @@ static USERS: [(&str, &[u8]); 11] = [
     ("6161", &[0x61, 0x61]),
     ("61ff", &[0x61, 0xff]),
     ("7f", &[0x7f]),
+    ("7f00", &[0x7f, 0x00]),
     ("80", &[0x80]),
+    ("8000", &[0x80, 0x00]),
     ("ff", &[0xff]),
     ("ffff", &[0xff, 0xff]),
 ];
 
 /// The user key of which the list has no entry.
-const ABSENT: usize = 9;
+const ABSENT: usize = 11;
 
 /// Versions of a user key, the newest first: the sequence number, the kind and its letter.
 static VERSIONS: [(u64, Kind, char); 5] = [
@@ -154,12 +157,32 @@ fn joined(alloc: Global, lines: &[String]) -> Result<String, Fail> {
     Ok(text)
 }
 
+/// Asserts that the calls are answered so from the file of the list in one data block, and in many.
+fn assert_in_blocks(
+    rt: &impl Abort,
+    alloc: Global,
+    lines: &str,
+    calls: &str,
+    text: &str,
+) -> Result<(), Fail> {
+    for option in [
+        "block=64",
+        "block=65",
+        "block=100",
+        "block=200",
+        "block=4096",
+    ] {
+        let file = file_in_blocks(alloc, option, lines)?;
+        assert_answered(rt, alloc, &file, calls, text)?;
+    }
+    Ok(())
+}
+
 #[test]
 fn every_target(rt: HostRuntime) -> Result<(), Fail> {
     let listed = mixed_list(rt.alloc())?;
-    assert_eq!(rt; listed.entries.len(), 33);
+    assert_eq!(rt; listed.entries.len(), 41);
     let lines = joined(rt.alloc(), &listed.lines)?;
-    let file = file_of_lines(rt.alloc(), lines.as_str())?;
     let mut calls = String::new(rt.alloc());
     let mut text = String::new(rt.alloc());
     let mut position = None;
@@ -170,5 +193,40 @@ fn every_target(rt: HostRuntime) -> Result<(), Fail> {
             position = put_answers(&mut text, &listed, &at_target, position)?;
         }
     }
-    assert_answered(&rt, rt.alloc(), &file, calls.as_str(), text.as_str())
+    assert_in_blocks(
+        &rt,
+        rt.alloc(),
+        lines.as_str(),
+        calls.as_str(),
+        text.as_str(),
+    )
+}
+
+#[test]
+fn every_step(rt: HostRuntime) -> Result<(), Fail> {
+    let listed = mixed_list(rt.alloc())?;
+    let lines = joined(rt.alloc(), &listed.lines)?;
+    let mut calls = String::new(rt.alloc());
+    let mut steps = Vec::new(rt.alloc());
+    calls.push_str("first\n")?;
+    steps.push(Call::First)?;
+    for _ in 0..42 {
+        calls.push_str("next\n")?;
+        steps.push(Call::Next)?;
+    }
+    calls.push_str("last\n")?;
+    steps.push(Call::Last)?;
+    for _ in 0..42 {
+        calls.push_str("prev\n")?;
+        steps.push(Call::Prev)?;
+    }
+    let mut text = String::new(rt.alloc());
+    put_answers(&mut text, &listed, &steps, None)?;
+    assert_in_blocks(
+        &rt,
+        rt.alloc(),
+        lines.as_str(),
+        calls.as_str(),
+        text.as_str(),
+    )
 }

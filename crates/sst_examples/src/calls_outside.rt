@@ -3,7 +3,7 @@
 //!
 //! The texts are worked by hand. They are this project's own.
 use crate::calls::file_of_lines;
-use crate::one_block::{ONE_ENTRY, assert_no_command, file_of};
+use crate::one_block::{assert_no_command, bare_file};
 use crate::worked_run::{
     CALLS, NAME, NONE_FAILS, Object, Ran, answered, answered_with, answered_with_stuck_sink,
     failing_at, holds, other_is_as_it_was, printed, refused, run_on, still_to_come,
@@ -95,7 +95,7 @@ fn assert_refused_input(
     input: &[u8],
     text: &str,
 ) -> Result<(), Fail> {
-    let file = file_of(alloc, &ONE_ENTRY)?;
+    let file = bare_file(alloc)?;
     let ran = answered(alloc, &file, input)?;
     assert!(rt; refused(&ran, text), "with {text}");
     assert!(rt; holds(&ran, NAME, &file), "with {text}");
@@ -161,7 +161,7 @@ fn long_target(alloc: Global, digits: usize) -> Result<Vec<u8>, Fail> {
 
 #[test]
 fn long_targets(rt: HostRuntime) -> Result<(), Fail> {
-    let file = file_of(rt.alloc(), &ONE_ENTRY)?;
+    let file = bare_file(rt.alloc())?;
     let longest = long_target(rt.alloc(), 131_072)?;
     let ran = answered(rt.alloc(), &file, &longest)?;
     assert_eq!(rt; ran.status, Status::Done);
@@ -186,7 +186,7 @@ fn an_absent_file(rt: HostRuntime) -> Result<(), Fail> {
 // One byte is missing. The input is refused before the file is opened.
 #[test]
 fn a_file_cut_short(rt: HostRuntime) -> Result<(), Fail> {
-    let mut file = file_of(rt.alloc(), &ONE_ENTRY)?;
+    let mut file = bare_file(rt.alloc())?;
     file.truncate(118);
     for (input, status, text) in [
         ("", Status::File, "damage not-table\n"),
@@ -235,9 +235,9 @@ fn each_failing_call(rt: HostRuntime) -> Result<(), Fail> {
     let file = file_of_lines(rt.alloc(), line.as_str())?;
     let calls = b"first\nlast\nget 61 1\nseek 61 1\nseek_for_prev 61 1\n";
     let text = lines_of_value(rt.alloc(), 60_000, 5)?;
-    // The folder tells the length, and gives the footer and three blocks; the input gives its lines and its end; the
+    // The folder tells the length, and gives the footer and four blocks; the input gives its lines and its end; the
     // output is put five lines in three pieces.
-    for (object, count) in [(Object::Folder, 5), (Object::Intake, 2), (Object::Sink, 3)] {
+    for (object, count) in [(Object::Folder, 6), (Object::Intake, 2), (Object::Sink, 3)] {
         for number in 1..=count {
             let ran = answered_with(rt.alloc(), &file, calls, failing_at(object, &[number]))?;
             assert!(rt;
@@ -261,7 +261,7 @@ static ENDS: [(&str, usize, Status); 3] = [
 #[test]
 fn an_output_that_fails(rt: HostRuntime) -> Result<(), Fail> {
     for (input, cut, status) in ENDS {
-        let mut file = file_of(rt.alloc(), &ONE_ENTRY)?;
+        let mut file = bare_file(rt.alloc())?;
         file.truncate(file.len().saturating_sub(cut));
         let ran = answered(rt.alloc(), &file, input.as_bytes())?;
         assert_eq!(rt; ran.status, status, "on {input} and {cut}");
@@ -283,7 +283,7 @@ fn an_output_that_fails(rt: HostRuntime) -> Result<(), Fail> {
 // The input is refused before the folder is asked.
 #[test]
 fn a_refused_input_over_a_folder_that_fails(rt: HostRuntime) -> Result<(), Fail> {
-    let file = file_of(rt.alloc(), &ONE_ENTRY)?;
+    let file = bare_file(rt.alloc())?;
     let ran = answered_with(
         rt.alloc(),
         &file,

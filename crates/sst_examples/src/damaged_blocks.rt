@@ -27,28 +27,8 @@ pub(crate) const INDEX_OF_TWO: &str = "00090262010100000000000000260000000001000
 /// The front of the footer.
 pub(crate) const FRONT_OF_TWO: &str = "0146082b16";
 
-/// Metaindexes that are at fault, or have a row; the front of the footer; and the fault.
-static METAINDEX_BLOCKS: [(&[&str], &str, &str); 15] = [
-    // A row: `rocksdb.properties` and a handle; an empty name and value; a value that is no handle.
-    (
-        &[
-            "001202726f636b7364622e70726f706572746965730015",
-            ONE_RESTART,
-            "008a0eaf65",
-        ],
-        "01351f1a16",
-        "not-yet",
-    ),
-    (
-        &["000000", ONE_RESTART, "00bb116558"],
-        "01350b1a16",
-        "not-yet",
-    ),
-    (
-        &["000102618000", ONE_RESTART, "00a1a704dc"],
-        "01350e1a16",
-        "not-yet",
-    ),
+/// Metaindexes that are at fault; the front of the footer; and the fault.
+static METAINDEX_BLOCKS: [(&[&str], &str, &str); 12] = [
     // Seven bytes; no byte; no restart; one more than there is room for; bit 31.
     (
         &["00000000010000", "00b28de7d2"],
@@ -123,8 +103,8 @@ fn metaindex_blocks(rt: HostRuntime) -> Result<(), Fail> {
     Ok(())
 }
 
-/// Indexes that are at fault, or have two rows; the front of the footer; and the fault.
-static INDEX_BLOCKS: [(&[&str], &str, &str); 16] = [
+/// Indexes that are at fault; the front of the footer; and the fault.
+static INDEX_BLOCKS: [(&[&str], &str, &str); 15] = [
     // Seven bytes; no restart; one more than there is room for; bit 31.
     (
         &["00000000010000", "00b28de7d2"],
@@ -209,17 +189,6 @@ static INDEX_BLOCKS: [(&[&str], &str, &str); 16] = [
         &[INDEX_ROW, "000000000100000002000000", "00d43bd828"],
         "0139081a1a",
         "restart 26 1",
-    ),
-    // Two rows.
-    (
-        &[
-            INDEX_ROW,
-            "0009026201010000000000000015",
-            ONE_RESTART,
-            "007f713532",
-        ],
-        "0143081a24",
-        "not-yet",
     ),
 ];
 

@@ -1,7 +1,8 @@
 //! Files with two faults or more, of which the first is told.
 //!
-//! A file is read in this order: its length; its footer; the metaindex; the index; the data block. The rows of the table
-//! are files in pieces of hex digits, as [`crate::damaged`] and [`crate::damaged_blocks`] have them.
+//! A file is read in this order: its length; its footer; the metaindex; the properties; the index; the data blocks in the
+//! order of the index. The rows of the table are files without properties in pieces of hex digits, as [`crate::damaged`]
+//! and [`crate::damaged_blocks`] have them; [`crate::damaged_names_twice`] has those with properties.
 //!
 //! RocksDB: `BlockBasedTable::Open` in table/block_based/block_based_table_reader.cc.
 use crate::damaged::{
@@ -59,7 +60,7 @@ static TWO_FAULTS: [(&[&str], &str); 18] = [
         ],
         "footer",
     ),
-    // The metaindex before the index, even where it isn't built yet.
+    // The metaindex before the index; a good row of the metaindex, and then the index.
     (
         &[
             DATA,
@@ -85,9 +86,9 @@ static TWO_FAULTS: [(&[&str], &str); 18] = [
             "01350b1a16",
             TAIL,
         ],
-        "not-yet",
+        "checksum 26 22",
     ),
-    // The index before the data block, even where it isn't built yet.
+    // The index before the data block; two good rows of the index, and then the data block.
     (
         &[
             ROW,
@@ -115,7 +116,7 @@ static TWO_FAULTS: [(&[&str], &str); 18] = [
             "0143081a24",
             TAIL,
         ],
-        "not-yet",
+        "checksum 0 21",
     ),
     // The place before the checksum, and that before the type.
     (

@@ -7,31 +7,31 @@
 //! in db/dbformat.h.
 use crate::one_block::line_of;
 use crate::worked_run::{NAME, Ran, holds, other_is_as_it_was, printed, put_hex, refused, written};
+use crate::written_file::{Behind, put_behind};
 use sst_cli::Status;
 use std::alloc::Global;
 use std::process::Abort;
 use std::test::Fail;
 
-/// The file of the empty list.
-static EMPTY: [&str; 7] = [
-    // No data block. The index block, at 0: no row.
-    "0000000001000000",
-    // Its trailer.
-    "00c0f2a1b0",
-    // The metaindex block, at 13: no row.
-    "0000000001000000",
-    // Its trailer.
-    "00c0f2a1b0",
-    // The footer: the kind of checksum, and the handles of the metaindex and the index block.
-    "010d080008",
-    // Zeros up to 41 bytes.
-    "000000000000000000000000000000000000000000000000000000000000000000000000",
-    // The version, 2, and the magic number.
-    "02000000f7cff485b741e288",
-];
+/// The index of the empty list, at 0: no row, and one restart point. Its trailer.
+static EMPTY: [&str; 2] = ["0000000001000000", "00c0f2a1b0"];
 
-/// The file of three versions of the key `k`: a value, a deletion and a merge operand.
-static THREE_VERSIONS: [&str; 12] = [
+/// Behind it: the properties of 254 bytes at 13, and the metaindex of 32 at 272.
+static BEHIND_EMPTY: Behind = Behind {
+    data_size: "00",
+    index_size: "0d",
+    blocks: "00",
+    entries: "00",
+    key_size: "00",
+    value_size: "00",
+    checksum: "862548ae",
+    handle: "0dfe01",
+    metaindex_checksum: "be7a84f5",
+    footer: "019002200008",
+};
+
+/// The data block and the index of three versions of the key `k`: a value, a deletion and a merge operand.
+static THREE_VERSIONS: [&str; 7] = [
     // The data block, at 0: three rows. They share the user key alone, since the kind comes next.
     "0009016b010900000000000031",
     "010801000500000000000032",
@@ -44,17 +44,21 @@ static THREE_VERSIONS: [&str; 12] = [
     "0009026b0202000000000000002d0000000001000000",
     // Its trailer.
     "002ad41c73",
-    // The metaindex block, at 77: no row.
-    "0000000001000000",
-    // Its trailer.
-    "00c0f2a1b0",
-    // The footer: the kind of checksum, and the handles of the metaindex and the index block.
-    "014d083216",
-    // Zeros up to 41 bytes.
-    "000000000000000000000000000000000000000000000000000000000000000000000000",
-    // The version, 2, and the magic number.
-    "02000000f7cff485b741e288",
 ];
+
+/// Behind them: the properties of 254 bytes at 77, and the metaindex of 32 at 336.
+static BEHIND_THREE_VERSIONS: Behind = Behind {
+    data_size: "32",
+    index_size: "1b",
+    blocks: "01",
+    entries: "03",
+    key_size: "1b",
+    value_size: "03",
+    checksum: "22cb0ae0",
+    handle: "4dfe01",
+    metaindex_checksum: "80311c36",
+    footer: "01d002203216",
+};
 
 /// The first 17 rows of a list with the keys 6b00, 6b01 and so on. Each shares `k` with the one before it, but for
 /// the first and the last, which stand at restart points.
@@ -98,8 +102,8 @@ static MORE_ROWS: [&str; 16] = [
     "000a016b20010100000000000060",
 ];
 
-/// What follows the rows in the file of the first 17.
-static END_OF_17: [&str; 9] = [
+/// What follows the rows of the first 17, up to the end of the index.
+static END_OF_17: [&str; 4] = [
     // Restart points at 0 and 209: the first row has 14 bytes, and the 15 after it have 13.
     "00000000d100000002000000",
     // The data block's trailer.
@@ -108,20 +112,24 @@ static END_OF_17: [&str; 9] = [
     "000a036b10010100000000000000eb010000000001000000",
     // Its trailer.
     "00e386670a",
-    // The metaindex block, at 269: no row.
-    "0000000001000000",
-    // Its trailer.
-    "00c0f2a1b0",
-    // The footer: the kind of checksum, and the handles of the metaindex and the index block.
-    "018d0208f00118",
-    // Zeros up to 41 bytes.
-    "00000000000000000000000000000000000000000000000000000000000000000000",
-    // The version, 2, and the magic number.
-    "02000000f7cff485b741e288",
 ];
 
-/// What follows the rows in the file of all 33.
-static END_OF_33: [&str; 9] = [
+/// Behind it: the properties of 256 bytes at 269, since two numbers have two bytes, and the metaindex of 33 at 530.
+static BEHIND_17: Behind = Behind {
+    data_size: "f001",
+    index_size: "1d",
+    blocks: "01",
+    entries: "11",
+    key_size: "aa01",
+    value_size: "11",
+    checksum: "503049cf",
+    handle: "8d028002",
+    metaindex_checksum: "d6ee3b93",
+    footer: "01920421f00118",
+};
+
+/// What follows the rows of all 33, up to the end of the index.
+static END_OF_33: [&str; 4] = [
     // Restart points at 0, 209 and 418, which is twice 209.
     "00000000d1000000a201000003000000",
     // The data block's trailer.
@@ -130,17 +138,21 @@ static END_OF_33: [&str; 9] = [
     "000a036b20010100000000000000c0030000000001000000",
     // Its trailer.
     "0018ef4a4f",
-    // The metaindex block, at 482: no row.
-    "0000000001000000",
-    // Its trailer.
-    "00c0f2a1b0",
-    // The footer: the kind of checksum, and the handles of the metaindex and the index block.
-    "01e20308c50318",
-    // Zeros up to 41 bytes.
-    "00000000000000000000000000000000000000000000000000000000000000000000",
-    // The version, 2, and the magic number.
-    "02000000f7cff485b741e288",
 ];
+
+/// Behind it: the properties of 256 bytes at 482, and the metaindex of 33 at 743.
+static BEHIND_33: Behind = Behind {
+    data_size: "c503",
+    index_size: "1d",
+    blocks: "01",
+    entries: "21",
+    key_size: "ca02",
+    value_size: "21",
+    checksum: "f7f96deb",
+    handle: "e2038002",
+    metaindex_checksum: "57428ca0",
+    footer: "01e70521c50318",
+};
 
 /// Asserts that the command wrote this file, and printed this.
 fn assert_wrote(rt: &impl Abort, ran: &Ran, file: &[u8], text: &str) {
@@ -155,6 +167,7 @@ fn the_empty_list(rt: HostRuntime) -> Result<(), Fail> {
     let ran = written(rt.alloc(), b"")?;
     let mut file = Vec::new(rt.alloc());
     put_hex(rt.alloc(), &mut file, &EMPTY)?;
+    put_behind(rt.alloc(), &mut file, &BEHIND_EMPTY)?;
     assert_wrote(&rt, &ran, &file, "wrote 0\n");
     Ok(())
 }
@@ -164,12 +177,13 @@ fn three_versions_of_a_key(rt: HostRuntime) -> Result<(), Fail> {
     let ran = written(rt.alloc(), b"6b 9 P 31\n6b 5 D 32\n6b 2 M 33\n")?;
     let mut file = Vec::new(rt.alloc());
     put_hex(rt.alloc(), &mut file, &THREE_VERSIONS)?;
+    put_behind(rt.alloc(), &mut file, &BEHIND_THREE_VERSIONS)?;
     assert_wrote(&rt, &ran, &file, "wrote 3\n");
     Ok(())
 }
 
 /// The lines of a list with so many of the keys 6b00, 6b01 and so on, and the values 40, 41 and so on.
-fn numbered_lines(alloc: Global, count: u8) -> Result<Vec<u8>, Fail> {
+pub(crate) fn numbered_lines(alloc: Global, count: u8) -> Result<Vec<u8>, Fail> {
     let mut text = Vec::new(alloc);
     for number in 0..count {
         let value = number | 0x40;
@@ -185,6 +199,7 @@ fn a_second_restart(rt: HostRuntime) -> Result<(), Fail> {
     let mut file = Vec::new(rt.alloc());
     put_hex(rt.alloc(), &mut file, &ROWS)?;
     put_hex(rt.alloc(), &mut file, &END_OF_17)?;
+    put_behind(rt.alloc(), &mut file, &BEHIND_17)?;
     assert_wrote(&rt, &ran, &file, "wrote 17\n");
     Ok(())
 }
@@ -196,6 +211,7 @@ fn a_third_restart(rt: HostRuntime) -> Result<(), Fail> {
     put_hex(rt.alloc(), &mut file, &ROWS)?;
     put_hex(rt.alloc(), &mut file, &MORE_ROWS)?;
     put_hex(rt.alloc(), &mut file, &END_OF_33)?;
+    put_behind(rt.alloc(), &mut file, &BEHIND_33)?;
     assert_wrote(&rt, &ran, &file, "wrote 33\n");
     Ok(())
 }

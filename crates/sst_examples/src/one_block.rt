@@ -1,13 +1,14 @@
 //! One line written as one block: `sst write block one.sst` with one entry line on its input.
 //!
 //! The bytes of the files are those of an independent program; their places and sizes are worked by hand in the
-//! comments beside them, and RocksDB's `sst_dump` scans them.
+//! comments beside them.
 //!
 //! RocksDB: `BlockBuilder` in table/block_based/block_builder.cc, `FooterBuilder::Build` in table/format.cc.
 use crate::worked_run::{
     NAME, NONE_FAILS, Object, Ran, WORDS, failing_at, holds, other_is_as_it_was, printed, put_hex,
     refused, run_on, run_with_stuck_sink, still_to_come, written,
 };
+use crate::written_file::{Behind, put_behind};
 use sst_cli::Status;
 use std::alloc::Global;
 use std::process::Abort;
@@ -19,8 +20,8 @@ const LINE: &str = "61 1 P 78\n";
 /// What is printed when it was written.
 const DONE: &str = "wrote 1\n";
 
-/// What differs between the files of one entry, in hex digits.
-pub(crate) struct OneEntry {
+/// What differs between the files of one entry up to the end of the index, in hex digits.
+struct OneEntry {
     /// The row of the data block, which begins at 0.
     row: &'static str,
     /// The checksum of the data block.
@@ -29,36 +30,31 @@ pub(crate) struct OneEntry {
     index_row: &'static str,
     /// The checksum of the index block.
     index_checksum: &'static str,
-    /// The handles of the metaindex and the index block.
-    handles: &'static str,
 }
 
-/// The file of the line `61 1 P 78`: the index block stands at 26, and the metaindex block at 53.
-pub(crate) static ONE_ENTRY: OneEntry = OneEntry {
+/// Those of the line `61 1 P 78`: the index block stands at 26, and ends with its trailer at 53.
+static ONE_ENTRY: OneEntry = OneEntry {
     row: "00090161010100000000000078",
     checksum: "84dd8874",
     index_row: "0009026101010000000000000015",
     index_checksum: "364925bf",
-    handles: "35081a16",
 };
 
-/// The file of the line `- 1 P AbCd`: the index block stands at 26, and the metaindex block at 52.
+/// Those of the line `- 1 P AbCd`: the index block stands at 26, and ends with its trailer at 52.
 static EMPTY_KEY: OneEntry = OneEntry {
     row: "0008020101000000000000abcd",
     checksum: "2c2919da",
     index_row: "00080201010000000000000015",
     index_checksum: "aba956c1",
-    handles: "34081a15",
 };
 
-/// The file of the line `61 72057594037927935 P 78`, with the last sequence number: the index block stands at 26,
-/// and the metaindex block at 53.
+/// Those of the line `61 72057594037927935 P 78`, with the last sequence number: the index block stands at 26, and ends
+/// with its trailer at 53.
 static LAST_NUMBER: OneEntry = OneEntry {
     row: "0009016101ffffffffffffff78",
     checksum: "e63dcbad",
     index_row: "0009026101ffffffffffffff0015",
     index_checksum: "03416abd",
-    handles: "35081a16",
 };
 
 /// The end of a block whose one restart point is 0.
@@ -67,22 +63,69 @@ const ONE_RESTART: &str = "0000000001000000";
 /// The type byte of a stored block: no compression.
 const NO_COMPRESSION: &str = "00";
 
-/// The file of one entry.
-pub(crate) fn file_of(alloc: Global, parts: &OneEntry) -> Result<Vec<u8>, Fail> {
-    let mut file = Vec::new(alloc);
+/// Behind the index of `61 1 P 78`: the properties of 254 bytes at 53, the metaindex of 32 at 312, and the footer at 349.
+static BEHIND_ENTRY: Behind = Behind {
+    data_size: "1a",
+    index_size: "1b",
+    blocks: "01",
+    entries: "01",
+    key_size: "09",
+    value_size: "01",
+    checksum: "b96d74e7",
+    handle: "35fe01",
+    metaindex_checksum: "afb00bd0",
+    footer: "01b802201a16",
+};
+
+/// Behind the index of `- 1 P AbCd`: each block is a byte nearer, and the index has 21 bytes.
+static BEHIND_EMPTY_KEY: Behind = Behind {
+    data_size: "1a",
+    index_size: "1a",
+    blocks: "01",
+    entries: "01",
+    key_size: "08",
+    value_size: "02",
+    checksum: "45baa24d",
+    handle: "34fe01",
+    metaindex_checksum: "0c926b28",
+    footer: "01b702201a15",
+};
+
+/// Appends the data block and the index of the file of one entry.
+fn put_front(alloc: Global, file: &mut Vec<u8>, parts: &OneEntry) -> Result<(), Fail> {
     let data_block = [parts.row, ONE_RESTART, NO_COMPRESSION, parts.checksum];
-    put_hex(alloc, &mut file, &data_block)?;
+    put_hex(alloc, file, &data_block)?;
     let index_block = [
         parts.index_row,
         ONE_RESTART,
         NO_COMPRESSION,
         parts.index_checksum,
     ];
-    put_hex(alloc, &mut file, &index_block)?;
+    put_hex(alloc, file, &index_block)
+}
+
+/// The file that is written for one entry.
+fn file_of(alloc: Global, parts: &OneEntry, behind: &Behind) -> Result<Vec<u8>, Fail> {
+    let mut file = Vec::new(alloc);
+    put_front(alloc, &mut file, parts)?;
+    put_behind(alloc, &mut file, behind)?;
+    Ok(file)
+}
+
+/// The file that is written for the line `61 1 P 78`.
+pub(crate) fn written_file(alloc: Global) -> Result<Vec<u8>, Fail> {
+    file_of(alloc, &ONE_ENTRY, &BEHIND_ENTRY)
+}
+
+/// The file of the line `61 1 P 78` without properties, as it was written before there were any: 119 bytes. Its
+/// metaindex of 8 bytes stands at 53, and has no row.
+pub(crate) fn bare_file(alloc: Global) -> Result<Vec<u8>, Fail> {
+    let mut file = Vec::new(alloc);
+    put_front(alloc, &mut file, &ONE_ENTRY)?;
     let metaindex_block = [ONE_RESTART, NO_COMPRESSION, "c0f2a1b0"];
     put_hex(alloc, &mut file, &metaindex_block)?;
     // The footer: the kind of checksum, the handles, 36 zeros, the version, and the magic number.
-    let footer = ["01", parts.handles, ZEROS, "02000000", "f7cff485b741e288"];
+    let footer = ["01", "35081a16", ZEROS, "02000000", "f7cff485b741e288"];
     put_hex(alloc, &mut file, &footer)?;
     Ok(file)
 }
@@ -92,12 +135,19 @@ const ZEROS: &str = "00000000000000000000000000000000000000000000000000000000000
 
 #[test]
 fn the_file_of_a_line(rt: HostRuntime) -> Result<(), Fail> {
-    for (input, parts) in [
-        (LINE, &ONE_ENTRY),
-        ("- 1 P AbCd\n", &EMPTY_KEY),
-        ("61 72057594037927935 P 78\n", &LAST_NUMBER),
+    for (input, parts, behind, length) in [
+        (LINE, &ONE_ENTRY, &BEHIND_ENTRY, 402),
+        ("- 1 P AbCd\n", &EMPTY_KEY, &BEHIND_EMPTY_KEY, 401),
+        // The properties don't tell the sequence number.
+        (
+            "61 72057594037927935 P 78\n",
+            &LAST_NUMBER,
+            &BEHIND_ENTRY,
+            402,
+        ),
     ] {
-        let file = file_of(rt.alloc(), parts)?;
+        let file = file_of(rt.alloc(), parts, behind)?;
+        assert_eq!(rt; file.len(), length, "on {input}");
         let ran = written(rt.alloc(), input.as_bytes())?;
         assert_eq!(rt; ran.status, Status::Done, "on {input}");
         assert!(rt; printed(&ran, DONE), "on {input}");
@@ -220,7 +270,7 @@ fn run_failing(alloc: Global, object: Object, number: u64) -> Result<Ran, Fail> 
 
 #[test]
 fn each_failing_call(rt: HostRuntime) -> Result<(), Fail> {
-    let file = file_of(rt.alloc(), &ONE_ENTRY)?;
+    let file = written_file(rt.alloc())?;
     // The folder begins the file and adds to it; the input gives its line and its end; the output is put one text.
     for (object, calls) in [(Object::Folder, 2), (Object::Intake, 2), (Object::Sink, 1)] {
         for number in 1..=calls {
@@ -280,7 +330,7 @@ fn length_of(ran: &Ran) -> Option<usize> {
 
 #[test]
 fn keys_and_values_at_their_limits(rt: HostRuntime) -> Result<(), Fail> {
-    for (key_digits, value_digits, length) in [(131_072, 2, 131_195), (2, 33_554_432, 16_777_340)] {
+    for (key_digits, value_digits, length) in [(131_072, 2, 131_486), (2, 33_554_432, 16_777_632)] {
         let line = line_of(rt.alloc(), key_digits, value_digits)?;
         let ran = written(rt.alloc(), &line)?;
         assert_eq!(rt; ran.status, Status::Done, "{key_digits} {value_digits}");

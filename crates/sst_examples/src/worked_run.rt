@@ -89,6 +89,11 @@ pub(crate) fn written(alloc: Global, input: &[u8]) -> Result<Ran, Fail> {
     run_on(alloc, &WORDS, input, NONE_FAILS)
 }
 
+/// Runs the command that writes a file with this option.
+pub(crate) fn written_with(alloc: Global, option: &str, input: &[u8]) -> Result<Ran, Fail> {
+    run_on(alloc, &["write", "block", NAME, option], input, NONE_FAILS)
+}
+
 /// Runs the command that answers calls from a file of these bytes.
 pub(crate) fn answered_with(
     alloc: Global,

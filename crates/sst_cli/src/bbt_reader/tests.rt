@@ -1,10 +1,12 @@
 //! Tests of opening a file, on the file of one entry and on what is left of it where bytes are changed.
 //!
-//! The data block of 21 bytes stands at 0; its type byte is at 21, and its checksum at 22. The file has 119 bytes.
+//! The data block of 21 bytes stands at 0; its type byte is at 21, and its checksum at 22. The file has 402 bytes.
 use super::{BbtReader, open};
 use crate::bbt_fault::BbtFault;
+use crate::bbt_options::BbtOptions;
 use crate::fault_text::fault_line;
 use crate::produce::produce;
+use crate::words::WriteLine;
 use sst_device::{FrameFault, MemFolder, MemIntake};
 use sst_key::Kind;
 use sst_meta::MetaFault;
@@ -15,6 +17,12 @@ use std::test::Fail;
 
 /// The name of the file.
 const NAME: &str = "table";
+
+/// The words that write it.
+const LINE: WriteLine<'static> = WriteLine {
+    name: NAME,
+    options: BbtOptions { block_size: 4096 },
+};
 
 /// The data block.
 const DATA: Handle = Handle {
@@ -30,7 +38,7 @@ const WITH_TYPE: usize = 22;
 fn written(alloc: Global, lines: &[u8], fail_at: &[u64]) -> Result<MemFolder, Fail> {
     let mut folder = MemFolder::new(alloc, fail_at)?;
     let mut input = MemIntake::new(alloc, lines, &[])?;
-    match produce(alloc, NAME, &mut folder, &mut input) {
+    match produce(alloc, LINE, &mut folder, &mut input) {
         Ok(_) => Ok(folder),
         Err(stop) => Err(Fail::from(stop)),
     }
@@ -89,8 +97,8 @@ fn a_file_of_no_entry(rt: HostRuntime) -> Result<(), Fail> {
 #[test]
 fn a_file_cut_short(rt: HostRuntime) -> Result<(), Fail> {
     let mut file = one_entry(rt.alloc())?;
-    assert_eq!(rt; file.len(), 119);
-    file.truncate(118);
+    assert_eq!(rt; file.len(), 402);
+    file.truncate(401);
     let fault = fault_of(rt.alloc(), &file)?;
     assert_eq!(rt; fault, Some(BbtFault::Meta(MetaFault::NotTable)));
     Ok(())
@@ -161,12 +169,12 @@ fn stops_at(alloc: Global, call: u64) -> Result<bool, Fail> {
     }
 }
 
-// Calls 3 to 7: the length, the footer, the metaindex, the index and the data block.
+// Calls 3 to 8: the length, the footer, the metaindex, the properties, the index and the data block.
 #[test]
 fn each_failing_call(rt: HostRuntime) -> Result<(), Fail> {
-    for call in 3..8 {
+    for call in 3..9 {
         assert!(rt; stops_at(rt.alloc(), call)?);
     }
-    assert!(rt; !stops_at(rt.alloc(), 8)?);
+    assert!(rt; !stops_at(rt.alloc(), 9)?);
     Ok(())
 }

@@ -1,0 +1,137 @@
+//! Files of the line `61 1 P 78` with chosen properties, or with chosen names in the metaindex.
+//!
+//! Each begins with the data block of 21 bytes at 0 and the index of 22 at 26. The block of properties stands at 53, the
+//! metaindex behind it, and then the footer. No name shares bytes with the one before it, and the first alone stands at
+//! a restart point. Blocks are stored by [`sst_device::put_frame`], whose checksums the tests of sst_device hold against
+//! worked ones.
+//!
+//! RocksDB: `PropertyBlockBuilder` and `MetaIndexBuilder` in table/meta_blocks.cc.
+use crate::damaged::{DATA, INDEX, MAGIC, ONE_RESTART, VERSION};
+use crate::worked_run::put_hex;
+use sst_device::put_frame;
+use sst_num::{Handle, put_handle};
+use std::alloc::Global;
+use std::test::Fail;
+
+/// The names in the metaindex: the properties, and the tombstones of ranges.
+pub(crate) const PROPERTIES: &str = "rocksdb.properties";
+
+pub(crate) const RANGE_DEL: &str = "rocksdb.range_del";
+
+/// The names of the properties that are looked at.
+pub(crate) const INDEX_TYPE: &str = "rocksdb.block.based.table.index.type";
+
+pub(crate) const COMPARATOR: &str = "rocksdb.comparator";
+
+pub(crate) const GLOBAL: &str = "rocksdb.external_sst_file.global_seqno";
+
+pub(crate) const EXTERNAL: &str = "rocksdb.external_sst_file.version";
+
+pub(crate) const USER_KEY: &str = "rocksdb.index.key.is.user.key";
+
+pub(crate) const DELTA: &str = "rocksdb.index.value.is.delta.encoded";
+
+/// The handle of the index.
+const INDEX_HANDLE: Handle = Handle {
+    offset: 26,
+    size: 22,
+};
+
+/// Appends a row: the name, and the value, which is told in hex digits.
+fn put_row(alloc: Global, block: &mut Vec<u8>, name: &str, value: &str) -> Result<(), Fail> {
+    let rest = name.len();
+    let length = value.len() / 2;
+    let lengths = format!(in alloc; "00{rest:02x}{length:02x}")?;
+    put_hex(alloc, block, &[lengths.as_str()])?;
+    block.extend_from_slice(name.as_bytes())?;
+    put_hex(alloc, block, &[value])
+}
+
+/// The block of these names and values, which are told in hex digits.
+pub(crate) fn names_block(alloc: Global, pairs: &[(&str, &str)]) -> Result<Vec<u8>, Fail> {
+    let mut block = Vec::new(alloc);
+    for (name, value) in pairs {
+        put_row(alloc, &mut block, name, value)?;
+    }
+    put_hex(alloc, &mut block, &[ONE_RESTART])?;
+    Ok(block)
+}
+
+/// Appends a footer that leads to this metaindex.
+fn put_end(alloc: Global, file: &mut Vec<u8>, metaindex: Handle) -> Result<(), Fail> {
+    let mut front = Vec::new(alloc);
+    front.push(1)?;
+    put_handle(&mut front, metaindex)?;
+    put_handle(&mut front, INDEX_HANDLE)?;
+    let zeros = vec![in alloc; 0; 41usize.saturating_sub(front.len())]?;
+    file.extend_from_slice(&front)?;
+    file.extend_from_slice(&zeros)?;
+    put_hex(alloc, file, &[VERSION, MAGIC])
+}
+
+/// Appends a metaindex with these rows, told as a block, and a footer that leads to it.
+fn put_metaindex(alloc: Global, file: &mut Vec<u8>, block: &[u8]) -> Result<(), Fail> {
+    let metaindex = Handle {
+        offset: file.len() as u64,
+        size: block.len() as u64,
+    };
+    put_frame(file, block)?;
+    put_end(alloc, file, metaindex)
+}
+
+/// Appends a block of properties, the metaindex that leads to it, and the footer.
+fn put_named(alloc: Global, file: &mut Vec<u8>, block: &[u8]) -> Result<(), Fail> {
+    let properties = Handle {
+        offset: file.len() as u64,
+        size: block.len() as u64,
+    };
+    put_frame(file, block)?;
+    let mut value = Vec::new(alloc);
+    put_handle(&mut value, properties)?;
+    let length = value.len();
+    let lengths = format!(in alloc; "0012{length:02x}")?;
+    let mut metaindex = Vec::new(alloc);
+    put_hex(alloc, &mut metaindex, &[lengths.as_str()])?;
+    metaindex.extend_from_slice(PROPERTIES.as_bytes())?;
+    metaindex.extend_from_slice(&value)?;
+    put_hex(alloc, &mut metaindex, &[ONE_RESTART])?;
+    put_metaindex(alloc, file, &metaindex)
+}
+
+/// The file with these properties.
+pub(crate) fn file_with(alloc: Global, pairs: &[(&str, &str)]) -> Result<Vec<u8>, Fail> {
+    file_with_index(alloc, &[INDEX], pairs)
+}
+
+/// The same with other bytes for the index and its trailer.
+pub(crate) fn file_with_index(
+    alloc: Global,
+    index: &[&str],
+    pairs: &[(&str, &str)],
+) -> Result<Vec<u8>, Fail> {
+    let mut file = Vec::new(alloc);
+    put_hex(alloc, &mut file, &[DATA])?;
+    put_hex(alloc, &mut file, index)?;
+    let block = names_block(alloc, pairs)?;
+    put_named(alloc, &mut file, &block)?;
+    Ok(file)
+}
+
+/// The file whose block of properties has these bytes.
+pub(crate) fn file_with_block(alloc: Global, pieces: &[&str]) -> Result<Vec<u8>, Fail> {
+    let mut file = Vec::new(alloc);
+    put_hex(alloc, &mut file, &[DATA, INDEX])?;
+    let mut block = Vec::new(alloc);
+    put_hex(alloc, &mut block, pieces)?;
+    put_named(alloc, &mut file, &block)?;
+    Ok(file)
+}
+
+/// The file whose metaindex has these names. A block without properties, of 8 bytes, stands at 53.
+pub(crate) fn file_with_names(alloc: Global, pairs: &[(&str, &str)]) -> Result<Vec<u8>, Fail> {
+    let mut file = Vec::new(alloc);
+    put_hex(alloc, &mut file, &[DATA, INDEX])?;
+    put_frame(&mut file, &names_block(alloc, &[])?)?;
+    put_metaindex(alloc, &mut file, &names_block(alloc, pairs)?)?;
+    Ok(file)
+}
