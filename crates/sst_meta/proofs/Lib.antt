@@ -2,9 +2,11 @@ pub mod BlocksRead
 pub mod FileEnds
 pub mod FooterKinds
 pub mod FooterLaws
+pub mod FooterPut
 pub mod FooterReads
 pub mod Footers
 pub mod FootersRead
+pub mod FramedParts
 pub mod HandlesRead
 pub mod LoadsRead
 pub mod Named
@@ -13,6 +15,7 @@ pub mod OneRestart
 pub mod PairsRead
 pub mod PropsRules
 pub mod PropsShown
+pub mod PutLoads
 pub mod ReadSteps
 pub mod SaidOnce
 pub mod Setting

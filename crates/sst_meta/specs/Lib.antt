@@ -10,3 +10,4 @@ pub mod BlockFooter
 pub mod LoadReading
 pub mod Meta
 pub mod MetaFaults
+pub mod Put

@@ -1,11 +1,13 @@
 //! What is loaded of a file is what the file says of itself.
-ghost use Rattle.std.specs.Prelude.{◌≡◌, ◌⊎◌, ℕ, ◌-◌, List, length, Ok, Err};
+ghost use Rattle.std.specs.Prelude.{◌≡◌, ◌⊎◌, ℕ, ◌-◌, ◌^◌, ◌<◌, List, length, Ok, Err};
 ghost use Rattle.sst_num.specs.declared.block_handle.Handle.{Handle};
-ghost use Rattle.sst_meta.specs.BlockFooter.{AreBytes, FooterLeads, block_footer, footer_start};
+ghost use Rattle.sst_block.specs.Block.{Row};
+ghost use Rattle.sst_meta.specs.BlockFooter.{AreBytes, FooterLeads, IsBuilt, block_footer, footer_start};
 ghost use Rattle.sst_meta.specs.FooterReading.{last_bytes};
 ghost use Rattle.sst_meta.specs.LoadReading.{end_read, load_read};
 ghost use Rattle.sst_meta.specs.Meta.{Meta};
 ghost use Rattle.sst_meta.specs.MetaFaults.{ShowsMeta};
+ghost use Rattle.sst_meta.specs.Put.{AreProps, file_with, loaded_with};
 ghost use Rattle.sst_meta.specs.declared.footer.Footer.{Footer};
 ghost use Rattle.sst_meta.specs.declared.loading.Loaded.{Loaded};
 ghost use Rattle.sst_meta.specs.declared.meta_fault.MetaFault.{MetaFault};
@@ -46,4 +48,17 @@ pub fn a_meta_fault_is_shown()
     ensures none { (file : List ℕ) (loaded : Loaded) (fault : MetaFault) → Meta file loaded → ShowsMeta file fault → ⊥ }
     ensures either { (file : List ℕ) → AreBytes (last_bytes 53 file)
         → ((loaded : Loaded) × Meta file loaded) ⊎ ((fault : MetaFault) × ShowsMeta file fault) }
+{}
+
+/// What is put at the end of a file is loaded again: the properties block of a `PropsBuilder`, the metaindex that leads to
+/// it, and the footer of `put_footer`.
+///
+/// It is so whatever stands before them in the file, and whatever the handle of the index is. The version is 2, 3 or 4, and
+/// the file is shorter than 2^40 bytes.
+/// RocksDB: `BlockBasedTableBuilder::Finish` in table/block_based/block_based_table_builder.cc, and
+/// `BlockBasedTable::Open` in table/block_based/block_based_table_reader.cc.
+pub fn what_is_put_is_loaded()
+    ensures { (front : List ℕ) (version : ℕ) (index : Handle) (pairs : List Row) → IsBuilt version
+        → index.offset < 2 ^ 64 → index.size < 2 ^ 64 → AreProps pairs → length (file_with front version index pairs) < 2 ^ 40
+        → load_read (file_with front version index pairs) ≡ Ok (loaded_with front version index pairs) }
 {}

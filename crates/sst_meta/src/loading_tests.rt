@@ -1,7 +1,11 @@
 //! Tests of loading, on files without a data block: the properties, the metaindex and the footer, each made from its
 //! bytes. No row shares a front with the one before it, and the index has no byte, at 0.
+use crate::builder::PropsBuilder;
+use crate::footer::{Footer, put_footer};
 use crate::loading::{Loaded, load};
-use crate::loading_laws::{a_file_loads_as_it_says, a_footer_is_read, a_meta_fault_is_shown};
+use crate::loading_laws::{
+    a_file_loads_as_it_says, a_footer_is_read, a_meta_fault_is_shown, what_is_put_is_loaded,
+};
 use crate::meta_fault::MetaFault;
 use crate::name::Name;
 use crate::names;
@@ -391,5 +395,55 @@ fn a_failing_device(rt: HostRuntime) -> Result<(), Fail> {
     assert!(rt; third.is_ok());
     let absent = load(rt.alloc(), &mut folder, "absent");
     assert_eq!(rt; absent.err(), Some(Stop::Device));
+    Ok(())
+}
+
+/// Appends the properties block of a builder, a metaindex that leads to it, and a footer, which it answers.
+fn put_ending(out: &mut Vec<u8>, alloc: Global) -> Result<Footer, Fail> {
+    let mut builder = PropsBuilder::new(alloc)?;
+    builder.set(names::NUM_ENTRIES, b"\x11")?;
+    let block = builder.finish()?;
+    let at = Handle {
+        offset: out.len() as u64,
+        size: block.as_slice().len() as u64,
+    };
+    put_frame(out, block.as_slice())?;
+    let mut value = Vec::new(alloc);
+    put_handle(&mut value, at)?;
+    let meta = put_pairs(out, alloc, &[(names::PROPERTIES, value.as_slice())])?;
+    let footer = Footer {
+        format: Format::Block,
+        legacy: false,
+        version: 3,
+        checksum: 1,
+        meta,
+        index: INDEX,
+    };
+    put_footer(out, &footer)?;
+    Ok(footer)
+}
+
+// What a builder and `put_footer` make is loaded again, here behind nine bytes.
+#[test]
+fn what_was_put(rt: HostRuntime) -> Result<(), Fail> {
+    let mut file = Vec::new(rt.alloc());
+    file.extend_from_slice(b"the front")?;
+    let footer = put_ending(&mut file, rt.alloc())?;
+    match load_of(rt.alloc(), &file)? {
+        Ok(loaded) => {
+            assert_eq!(rt; loaded.len, file.len() as u64);
+            assert_eq!(rt; loaded.footer, footer);
+            assert_eq!(rt; loaded.names.len(), 1);
+            match &loaded.props {
+                Some(found) => {
+                    assert_eq!(rt; found.len(), 1);
+                    assert_eq!(rt; found.get(names::NUM_ENTRIES), Some(b"\x11".as_slice()));
+                }
+                None => panic!(rt; "no properties"),
+            }
+        }
+        Err(stop) => panic!(rt; "{stop:?}"),
+    }
+    what_is_put_is_loaded();
     Ok(())
 }
