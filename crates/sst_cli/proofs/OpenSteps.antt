@@ -1,6 +1,8 @@
 -- What a file opens as, part by part.
-use Rattle.std.proofs.Common.{◌≡◌, ℕ, ◌-◌, ◌^◌, ◌<◌, ◌≤◌, zero, suc, nat_lt, if◌then◌else◌, Bool, true, false, List, [], ◌∷◌, ◌++◌, length, map, Option, Some, IfOk, Result, Ok, Err, refl, sym, ap, ◌∙◌, subst, arith}
+use Rattle.std.proofs.Common.{◌≡◌, ◌⊎◌, inl, inr, IsTrue, ℕ, ◌-◌, ◌^◌, ◌<◌, ◌≤◌, zero, suc, nat_lt, if◌then◌else◌, Bool, true, false, List, [], ◌∷◌, ◌++◌, length, map, Option, None, Some, Result, Ok, Err, refl, sym, ap, ◌∙◌, subst, arith}
+use Rattle.std.proofs.lemmas.Bool.{ltb-true}
 use Rattle.std.proofs.lemmas.List.{length-map}
+use Rattle.std.specs.FinMap.{get}
 use Rattle.sst_num.specs.Reading.{handle_at}
 use Rattle.sst_num.specs.declared.block_handle.Handle.{Handle}
 use Rattle.sst_num.specs.declared.stops.Stop.{Stop}
@@ -11,6 +13,8 @@ use Rattle.sst_block.specs.declared.row_form.RowForm.TheVariants.{Entries, Names
 use Rattle.sst_block.specs.declared.fault.BlockFault.{BlockFault}
 use Rattle.sst_block.specs.Block.{Row, Spelled}
 use Rattle.sst_block.specs.Reading.{Reads, Gives, block_read}
+use Rattle.sst_device.specs.Faults.{Rose}
+use Rattle.sst_device.specs.Folder.{Files, file_of, misses, ends_before}
 use Rattle.sst_device.specs.Stops.{Answers, stop_as}
 use Rattle.sst_device.specs.FrameReading.{frame_read}
 use Rattle.sst_device.specs.declared.frame.FrameFault.{FrameFault}
@@ -108,3 +112,22 @@ unfolding blocks_read
 after_load result loaded file end is at opens =
     let start : end ≡ footer_start file = at ∙ ap (λ (n : ℕ). n - 53) (loaded_length file loaded is) in
     rw is (subst (λ (n : ℕ). Opened result (index_read file n loaded.footer.index)) start opens)
+
+-- a file that is there isn't shorter than its footer begins
+ends-early : (found : Option (List ℕ)) (end : ℕ) → ((file : List ℕ) → found ≡ Some file → end ≤ length file) → IsTrue (ends_before found end)
+    → IsTrue (ends_before found 0)
+ends-early None end within early = early
+ends-early (Some file) end within early = let short = ltb-true (length file) end early in absurd (omega (arith, short, within file refl))
+
+missed-whole : (held : Option Files) (name : List ℕ) (end : ℕ) → ((file : List ℕ) → file_of held name ≡ Some file → end ≤ length file)
+    → IsTrue (misses held name end) → IsTrue (misses held name 0)
+missed-whole None name end within missed = missed
+missed-whole (Some files) name end within missed = ends-early (get files name) end within missed
+
+-- so that a block isn't missed where the file is there
+pub whole_failed : (held now : Option Files) (name : List ℕ) (end first then_ last : ℕ) → now ≡ held → first ≤ then_
+    → ((file : List ℕ) → file_of held name ≡ Some file → end ≤ length file) → IsTrue (misses now name end) ⊎ Rose then_ last
+    → IsTrue (misses held name 0) ⊎ Rose first last
+whole_failed held now name end first then_ last same counts within (inl missed) =
+    inl (missed-whole held name end within (subst (λ (h : Option Files). IsTrue (misses h name end)) same missed))
+whole_failed held now name end first then_ last same counts within (inr rose) = inr (omega (arith, counts, rose))
