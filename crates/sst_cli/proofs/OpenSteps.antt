@@ -17,7 +17,6 @@ use Rattle.sst_device.specs.Faults.{Rose}
 use Rattle.sst_device.specs.Folder.{Files, file_of, misses, ends_before}
 use Rattle.sst_device.specs.Stops.{Answers, stop_as}
 use Rattle.sst_device.specs.FrameReading.{frame_read}
-use Rattle.sst_device.specs.declared.frame.FrameFault.{FrameFault}
 use Rattle.sst_meta.specs.BlockFooter.{footer_start}
 use Rattle.sst_meta.specs.Blocks.{then_open, rows_checked, block_at}
 use Rattle.sst_meta.specs.FooterReading.{last_bytes}
@@ -28,8 +27,8 @@ use Rattle.sst_meta.specs.declared.meta_fault.MetaFault.{MetaFault}
 use Rattle.sst_meta.specs.declared.meta_fault.MetaFault.TheVariants as meta
 use Rattle.sst_bbt_spec.specs.Rows.{row_of, rows_of}
 use Rattle.sst_cli.specs.TableBlocks.{Table, AreEntries}
-use Rattle.sst_cli.specs.Opening.{RowBlock, with_rows, data_read, handle_read, index_read, blocks_read}
-use Rattle.sst_cli.specs.Reader.{Opened, BlockAdded, Stopped}
+use Rattle.sst_cli.specs.Opening.{with_rows, data_read, handle_read, index_read, blocks_read}
+use Rattle.sst_cli.specs.Reader.{Opened, BlockAdded}
 use Rattle.sst_cli.specs.declared.bbt_fault.BbtFault.{BbtFault}
 use Rattle.sst_cli.specs.declared.bbt_fault.BbtFault.TheVariants as bbt
 use Rattle.sst_cli.proofs.ReadSteps.{then_open-ok}
