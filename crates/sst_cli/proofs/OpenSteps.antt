@@ -62,10 +62,11 @@ rows_added block h n place before now gives some all ends =
     let r = read_rows Entries block n gives in
     let a = all r.0 r.1 r.2 in
     let many : length a.0 ≡ n = sym (length-map a.0 row_of) ∙ sym (ap length a.2) ∙ r.2 in
-    let one = positive n some in
-    (record { entries = a.0; appended = a.1; ends = ends; some = omega (arith, many, one); are = a.3 },
+    let one = positive n some in (
+      record { entries = a.0; appended = a.1; ends = ends; some = omega (arith, many, one); are = a.3 },
       ap (λ (rows : Result (List Row) BbtFault). then_open rows (with_rows h)) (checked-rows (bbt.Block h) Entries block r.0 r.1)
-      ∙ some_rows h r.0 (omega (arith, r.2, one)) ∙ ap Ok a.2)
+          ∙ some_rows h r.0 (omega (arith, r.2, one)) ∙ ap Ok a.2,
+    )
 
 -- the rows of the data block to which a value leads
 pub led_rows : (file : List ℕ) (end : ℕ) (value : List ℕ) (h : Handle) (used : ℕ) (block shown : List ℕ) (rows : List Row) → Some (h, used) ≡ handle_at value
