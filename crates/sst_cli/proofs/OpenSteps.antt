@@ -1,6 +1,8 @@
 -- What a file opens as, part by part.
-use Rattle.std.proofs.Common.{◌≡◌, ℕ, ◌-◌, ◌^◌, ◌<◌, ◌≤◌, zero, suc, nat_lt, if◌then◌else◌, Bool, true, false, List, [], ◌∷◌, ◌++◌, length, map, Option, Some, IfOk, Result, Ok, Err, refl, sym, ap, ◌∙◌, subst, arith}
+use Rattle.std.proofs.Common.{◌≡◌, ◌⊎◌, inl, inr, IsTrue, ℕ, ◌-◌, ◌^◌, ◌<◌, ◌≤◌, zero, suc, nat_lt, if◌then◌else◌, Bool, true, false, List, [], ◌∷◌, ◌++◌, length, map, Option, None, Some, Result, Ok, Err, refl, sym, ap, ◌∙◌, subst, arith}
+use Rattle.std.proofs.lemmas.Bool.{ltb-true}
 use Rattle.std.proofs.lemmas.List.{length-map}
+use Rattle.std.specs.FinMap.{get}
 use Rattle.sst_num.specs.Reading.{handle_at}
 use Rattle.sst_num.specs.declared.block_handle.Handle.{Handle}
 use Rattle.sst_num.specs.declared.stops.Stop.{Stop}
@@ -11,9 +13,10 @@ use Rattle.sst_block.specs.declared.row_form.RowForm.TheVariants.{Entries, Names
 use Rattle.sst_block.specs.declared.fault.BlockFault.{BlockFault}
 use Rattle.sst_block.specs.Block.{Row, Spelled}
 use Rattle.sst_block.specs.Reading.{Reads, Gives, block_read}
+use Rattle.sst_device.specs.Faults.{Rose}
+use Rattle.sst_device.specs.Folder.{Files, file_of, misses, ends_before}
 use Rattle.sst_device.specs.Stops.{Answers, stop_as}
 use Rattle.sst_device.specs.FrameReading.{frame_read}
-use Rattle.sst_device.specs.declared.frame.FrameFault.{FrameFault}
 use Rattle.sst_meta.specs.BlockFooter.{footer_start}
 use Rattle.sst_meta.specs.Blocks.{then_open, rows_checked, block_at}
 use Rattle.sst_meta.specs.FooterReading.{last_bytes}
@@ -24,8 +27,8 @@ use Rattle.sst_meta.specs.declared.meta_fault.MetaFault.{MetaFault}
 use Rattle.sst_meta.specs.declared.meta_fault.MetaFault.TheVariants as meta
 use Rattle.sst_bbt_spec.specs.Rows.{row_of, rows_of}
 use Rattle.sst_cli.specs.TableBlocks.{Table, AreEntries}
-use Rattle.sst_cli.specs.Opening.{RowBlock, with_rows, data_read, handle_read, index_read, blocks_read}
-use Rattle.sst_cli.specs.Reader.{Opened, BlockAdded, Stopped}
+use Rattle.sst_cli.specs.Opening.{with_rows, data_read, handle_read, index_read, blocks_read}
+use Rattle.sst_cli.specs.Reader.{Opened, BlockAdded}
 use Rattle.sst_cli.specs.declared.bbt_fault.BbtFault.{BbtFault}
 use Rattle.sst_cli.specs.declared.bbt_fault.BbtFault.TheVariants as bbt
 use Rattle.sst_cli.proofs.ReadSteps.{then_open-ok}
@@ -59,10 +62,11 @@ rows_added block h n place before now gives some all ends =
     let r = read_rows Entries block n gives in
     let a = all r.0 r.1 r.2 in
     let many : length a.0 ≡ n = sym (length-map a.0 row_of) ∙ sym (ap length a.2) ∙ r.2 in
-    let one = positive n some in
-    (record { entries = a.0; appended = a.1; ends = ends; some = omega (arith, many, one); are = a.3 },
+    let one = positive n some in (
+      record { entries = a.0; appended = a.1; ends = ends; some = omega (arith, many, one); are = a.3 },
       ap (λ (rows : Result (List Row) BbtFault). then_open rows (with_rows h)) (checked-rows (bbt.Block h) Entries block r.0 r.1)
-      ∙ some_rows h r.0 (omega (arith, r.2, one)) ∙ ap Ok a.2)
+          ∙ some_rows h r.0 (omega (arith, r.2, one)) ∙ ap Ok a.2,
+    )
 
 -- the rows of the data block to which a value leads
 pub led_rows : (file : List ℕ) (end : ℕ) (value : List ℕ) (h : Handle) (used : ℕ) (block shown : List ℕ) (rows : List Row) → Some (h, used) ≡ handle_at value
@@ -108,3 +112,22 @@ unfolding blocks_read
 after_load result loaded file end is at opens =
     let start : end ≡ footer_start file = at ∙ ap (λ (n : ℕ). n - 53) (loaded_length file loaded is) in
     rw is (subst (λ (n : ℕ). Opened result (index_read file n loaded.footer.index)) start opens)
+
+-- a file that is there isn't shorter than its footer begins
+ends-early : (found : Option (List ℕ)) (end : ℕ) → ((file : List ℕ) → found ≡ Some file → end ≤ length file) → IsTrue (ends_before found end)
+    → IsTrue (ends_before found 0)
+ends-early None end within early = early
+ends-early (Some file) end within early = let short = ltb-true (length file) end early in absurd (omega (arith, short, within file refl))
+
+missed-whole : (held : Option Files) (name : List ℕ) (end : ℕ) → ((file : List ℕ) → file_of held name ≡ Some file → end ≤ length file)
+    → IsTrue (misses held name end) → IsTrue (misses held name 0)
+missed-whole None name end within missed = missed
+missed-whole (Some files) name end within missed = ends-early (get files name) end within missed
+
+-- so that a block isn't missed where the file is there
+pub whole_failed : (held now : Option Files) (name : List ℕ) (end first then_ last : ℕ) → now ≡ held → first ≤ then_
+    → ((file : List ℕ) → file_of held name ≡ Some file → end ≤ length file) → IsTrue (misses now name end) ⊎ Rose then_ last
+    → IsTrue (misses held name 0) ⊎ Rose first last
+whole_failed held now name end first then_ last same counts within (inl missed) =
+    inl (missed-whole held name end within (subst (λ (h : Option Files). IsTrue (misses h name end)) same missed))
+whole_failed held now name end first then_ last same counts within (inr rose) = inr (omega (arith, counts, rose))
