@@ -1,7 +1,6 @@
 -- A file that opens reads as its data blocks, and a file that reads as data blocks opens to them.
 use Rattle.std.proofs.Common.{◌≡◌, ℕ, ◌^◌, ◌<◌, false, List, [], ◌∷◌, All, Result, Ok, refl, sym, ap, ◌∙◌, arith}
 use Rattle.std.proofs.lemmas.List.Elements.{All-head, All-tail}
-use Rattle.sst_key.specs.declared.entries.Entry.{Entry}
 use Rattle.sst_block.specs.declared.row_form.RowForm.TheVariants.{Index}
 use Rattle.sst_block.specs.Block.{Row, IsRow}
 use Rattle.sst_meta.specs.BlockFooter.{footer_start}
@@ -10,10 +9,10 @@ use Rattle.sst_meta.specs.LoadReading.{load_read}
 use Rattle.sst_meta.proofs.BlocksRead.{RowsAt, block_at-rows, block_at-found}
 use Rattle.sst_meta.proofs.LoadsRead.{load-complete, load-sound}
 use Rattle.sst_meta.proofs.ReadSteps.{then_open-ok, as_fault-ok}
-use Rattle.sst_bbt_spec.specs.BlockBased.{BlockBased, Opens}
+use Rattle.sst_bbt_spec.specs.BlockBased.{Opens}
 use Rattle.sst_bbt_spec.specs.Rows.{rows_of}
 use Rattle.sst_bbt_spec.specs.Runs.{Lead}
-use Rattle.sst_bbt_spec.specs.Way.{IndexedBlock, joined}
+use Rattle.sst_bbt_spec.specs.Way.{IndexedBlock}
 use Rattle.sst_cli.specs.Opening.{RowBlock, led_read, runs_read, opened_read, blocks_read}
 use Rattle.sst_cli.specs.TableBlocks.{row_blocks_of}
 use Rattle.sst_cli.specs.declared.bbt_fault.BbtFault.{BbtFault}
@@ -82,8 +81,7 @@ blocks_read-found file read e =
     then_open-ok (block_at bbt.Frame (bbt.Block index) (Index false false) file end index) (runs_read file end) read e
     (λ index_rows found last.
     let at = block_at-found bbt.Frame (bbt.Block index) (Index false false) file end index index_rows tt found in
-    let runs = runs_read-found file end index_rows read at.block.forms last in
-    (
+    let runs = runs_read-found file end index_rows read at.block.forms last in (
       runs.blocks,
       record {
         loaded = loaded;
@@ -96,8 +94,3 @@ blocks_read-found file read e =
       },
       runs.are,
     )))
-
--- the file that stands for a list reads as data blocks that joined are the list
-pub blocks_read-stands : (file : List ℕ) (entries : List Entry) → BlockBased file entries
-    → (blocks : List IndexedBlock) × (blocks_read file ≡ Ok (row_blocks_of blocks)) × (joined blocks ≡ entries)
-blocks_read-stands file entries stands = (stands.blocks, blocks_read-opens file stands.blocks stands.opens, stands.runs.joined_is)
