@@ -1,11 +1,10 @@
 -- The rows of a block as a walk over them gives them, and the entries that they are.
 use Rattle.std.proofs.Common.{◌≡◌, ℕ, ◌≤◌, ◌+◌, List, [], ◌∷◌, ◌++◌, length, take, All, Some, slice_get, sym, ap, ◌∙◌, subst, arith}
-use Rattle.std.proofs.lemmas.List.{take_all}
+use Rattle.std.proofs.lemmas.List.{take_all, append_assoc}
 use Rattle.std.proofs.lemmas.List.Elements.{All-nil, All-cons, All-head, All-tail, All-get_or}
 use Rattle.std.proofs.lemmas.Option.{slice_get_within, get_or_from_slice_get}
 use Rattle.sst_key.specs.declared.entries.Entry.{Entry}
-use Rattle.sst_key.specs.Entry.{key_of, IsOrdered}
-use Rattle.sst_key.proofs.KeyParts.{internal_cmp-entries, IsBefore-from_less}
+use Rattle.sst_key.specs.Entry.{key_of}
 use Rattle.sst_block.specs.declared.iter.BlockIter.{BlockIter}
 use Rattle.sst_block.specs.declared.row_form.RowForm.TheVariants.{Entries}
 use Rattle.sst_block.specs.Block.{Row, Block, IsRow, IsInternalKey, AreOrdered}
@@ -13,21 +12,9 @@ use Rattle.sst_block.specs.Iter.{Walks, place_of}
 use Rattle.sst_block.specs.Reading.{Reads}
 use Rattle.sst_block.proofs.RowsCopied.{KeyAt, ValueAt, walks-at, same_row, one_more}
 use Rattle.sst_bbt_spec.specs.Rows.{row_of, rows_of, HasSeq}
+use Rattle.sst_bbt_spec.proofs.EntriesOfRows.{entries-ordered}
 use Rattle.sst_cli.specs.TableBlocks.{AreEntries}
 use Rattle.sst_cli.proofs.Rows.{rows_of-append, length-key_of}
-
-pub walks-first : (it : BlockIter) (row : Row) (rest : List Row) → Walks it (row ∷ rest) (place_of (row ∷ rest) 0) → Walks it (row ∷ rest) (Some 0)
-walks-first it row rest w = walks-at it (row ∷ rest) 0 (omega arith) w
-
--- the value that is shown at the first row is that row's
-pub first_value : (first : Row) (rest : List Row) (value : List ℕ) → (row : Row) × (slice_get (first ∷ rest) 0 ≡ Some row) × (value ≡ row.value)
-    → value ≡ first.value
-first_value first rest value (row, at, is) = let same : Some first ≡ Some row = at in is ∙ cc
-
--- and so is the key
-pub first_key : (first : Row) (rest : List Row) (key : List ℕ) → (row : Row) × (slice_get (first ∷ rest) 0 ≡ Some row) × (key ≡ row.key)
-    → key ≡ first.key
-first_key first rest key (row, at, is) = let same : Some first ≡ Some row = at in is ∙ cc
 
 -- a walk over a data block of so many rows stands at the n-th, and the rows before it were copied
 pub record Copied (block : List ℕ) (count : ℕ) (walk : BlockIter) (n : ℕ) (entries : List Entry) : Type 0 where
@@ -52,14 +39,6 @@ copied_more block rows n key value entries e front k v is =
     ∙ one_more rows n (row_of e) (same_row rows n key value (row_of e) k v is)
 
 -- entries whose rows stand in a data block
-ordered-from_rows : (entries : List Entry) → All HasSeq entries → AreOrdered Entries (rows_of entries) → IsOrdered entries
-ordered-from_rows [] seqs ordered = tt
-ordered-from_rows (a ∷ []) seqs ordered = tt
-ordered-from_rows (a ∷ b ∷ rest) seqs ordered =
-    let more = All-tail HasSeq a (b ∷ rest) seqs in
-    let less = sym (internal_cmp-entries a b (All-head HasSeq a (b ∷ rest) seqs) (All-head HasSeq b rest more)) ∙ ordered.0 in
-    (IsBefore-from_less a b less, ordered-from_rows (b ∷ rest) more ordered.1)
-
 users-from_rows : (entries : List Entry) → All (IsRow Entries) (rows_of entries) → All (λ (e : Entry). length e.user ≤ 65536) entries
 users-from_rows [] forms = All-nil (λ (e : Entry). length e.user ≤ 65536)
 users-from_rows (e ∷ rest) forms =
@@ -70,7 +49,7 @@ pub entries_are : (block : List ℕ) (rows : List Row) (entries : List Entry) �
     → AreEntries entries
 entries_are block rows entries is same seqs =
     record {
-      ordered = ordered-from_rows entries seqs (subst (λ (rs : List Row). AreOrdered Entries rs) same is.ordered);
+      ordered = entries-ordered entries seqs (subst (λ (rs : List Row). AreOrdered Entries rs) same is.ordered);
       seqs = seqs;
       users = users-from_rows entries (subst (λ (rs : List Row). All (IsRow Entries) rs) same is.forms);
     }
@@ -78,3 +57,13 @@ entries_are block rows entries is same seqs =
 -- all rows were copied
 pub copied_all : (rows : List Row) (n : ℕ) (entries : List Entry) → rows_of entries ≡ take n rows → length rows ≤ n → rows ≡ rows_of entries
 copied_all rows n entries front all = sym (front ∙ take_all n rows all)
+
+-- such a walk, whose rows are copied behind the entries before
+pub record Added (block : List ℕ) (count : ℕ) (before : List Entry) (walk : BlockIter) (n : ℕ) (entries : List Entry) : Type 0 where
+  pub added : List Entry
+  pub appended : entries ≡ before ++ added
+  pub front : Copied block count walk n added
+
+-- one entry more behind
+pub appended_more : (before added entries now : List Entry) (e : Entry) → now ≡ entries ++ e ∷ [] → entries ≡ before ++ added → now ≡ before ++ (added ++ e ∷ [])
+appended_more before added entries now e is behind = is ∙ ap (λ (es : List Entry). es ++ e ∷ []) behind ∙ append_assoc before added (e ∷ [])

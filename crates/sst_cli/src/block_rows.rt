@@ -1,16 +1,16 @@
-//! The rows of blocks that were checked, as what they stand for: a handle, or entries.
-ghost use Rattle.std.specs.Prelude.{◌≡◌, ◌≤◌, ◌^◌, false, List, ◌∷◌, length, IfOk, option_map};
-ghost use Rattle.sst_num.specs.Reading.{handle_at};
+//! The rows of data blocks that were checked, as the entries that they stand for.
+ghost use Rattle.std.specs.Prelude.{◌≡◌, ◌≤◌, ◌^◌, List, ◌++◌, length, IfOk, OnOk};
 ghost use Rattle.sst_block.specs.Block.{Row, IsInternalKey};
 ghost use Rattle.sst_block.specs.Builder.{HasNoFlags};
 ghost use Rattle.sst_block.specs.Reading.{Gives, Reads, block_read};
-ghost use Rattle.sst_block.specs.declared.row_form.RowForm.TheVariants.{Entries, Index};
+ghost use Rattle.sst_block.specs.declared.row_form.RowForm.TheVariants.{Entries};
+ghost use Rattle.sst_key.specs.declared.entries.Entry.{Entry};
 ghost use Rattle.sst_bbt_spec.specs.Rows.{rows_of, row_of, HasSeq};
 ghost use Rattle.sst_cli.specs.TableBlocks.{AreEntries};
 
 use sst_block::{BlockFault, BlockIter, RowForm, check_block};
 use sst_key::{Entry, KeyRoom, unpack};
-use sst_num::{Bytes, Handle, Memory, Refused, take_handle};
+use sst_num::{Bytes, Memory, Refused};
 use std::alloc::Global;
 
 /// How many rows a block has, or its first fault.
@@ -54,7 +54,7 @@ pub fn add_entries(
     requires short { length block.now ≤ 2 ^ 29 }
     requires read { (rows : List Row) × Reads Entries block.now rows × (length rows ≡ count) }
     ensures rows { OnOk result ((rows : List Row) → Reads Entries block.now rows → length rows ≡ count
-        → (added : List entry_type) × (entries.new.items ≡ entries.old.items ++ added) × (rows ≡ rows_of added) × AreEntries added) }
+        → (added : List Entry) × (entries.new.items ≡ entries.old.items ++ added) × (rows ≡ rows_of added) × AreEntries added) }
 {
     let room = KeyRoom::new(alloc)?;
     let mut rows = BlockIter::start(block, RowForm::Entries, room);

@@ -1,14 +1,16 @@
 //! The index and the data blocks of a file that is opened.
-ghost use Rattle.std.specs.Prelude.{◌≡◌, ◌≢◌, ℕ, ◌^◌, ◌≤◌, ◌⊎◌, false, List, [], ◌∷◌, ◌++◌, length, Some, Err, IsTrue, OnOk};
-ghost use Rattle.sst_block.specs.Block.{Row};
+ghost use Rattle.std.specs.Prelude.{◌≡◌, ◌≢◌, ℕ, ◌^◌, ◌≤◌, ◌⊎◌, false, List, [], ◌∷◌, ◌++◌, length, Some, Ok, Err, IsTrue, OnOk, IfOk};
+ghost use Rattle.sst_num.specs.Reading.{handle_at};
+ghost use Rattle.sst_block.specs.Block.{Row, IsHandle};
 ghost use Rattle.sst_block.specs.Reading.{Reads};
 ghost use Rattle.sst_block.specs.declared.row_form.RowForm.TheVariants.{Entries, Index};
 ghost use Rattle.sst_device.specs.Folder.{file_of, misses};
 ghost use Rattle.sst_device.specs.Faults.{Rose};
 ghost use Rattle.sst_device.specs.Stops.{stop_as};
 ghost use Rattle.sst_meta.specs.Blocks.{rows_checked, then_open};
-ghost use Rattle.sst_cli.specs.Opening.{index_read, runs_read};
-ghost use Rattle.sst_cli.specs.Reader.{Opened};
+ghost use Rattle.sst_bbt_spec.specs.Rows.{rows_of};
+ghost use Rattle.sst_cli.specs.Opening.{index_read, runs_read, data_read, handle_read, with_rows};
+ghost use Rattle.sst_cli.specs.Reader.{Opened, BlockAdded, Stopped};
 ghost use Rattle.sst_cli.specs.declared.bbt_fault.BbtFault.TheVariants as bbt;
 
 use crate::bbt_fault::BbtFault;
@@ -105,7 +107,8 @@ fn read_runs<F: Folder>(
     index: &[u8],
     count: u32,
 ) -> Result<BbtReader, Stop<BbtFault>>
-    requires { (rows : List Row) × Reads (Index false false) index.now rows × (length rows ≡ count) }
+    requires short { length index.now ≤ 2 ^ 29 }
+    requires read { (rows : List Row) × Reads (Index false false) index.now rows × (length rows ≡ count) }
     ensures told { (file : List ℕ) → file_of (F.held files.old) name.now ≡ Some file → end ≤ length file
         → (rows : List Row) → Reads (Index false false) index.now rows → length rows ≡ count
         → Opened result (runs_read file end rows) }
@@ -135,7 +138,18 @@ fn read_block<F: Folder>(
     end: u64,
     value: &[u8],
     entries: &mut Vec<Entry>,
-) -> Result<usize, Stop<BbtFault>> {
+) -> Result<usize, Stop<BbtFault>>
+    requires { IsHandle value.now }
+    ensures added { IfOk result (λ place. (block : BlockAdded entries.old.items entries.new.items place)
+        × ((file : List ℕ) → file_of (F.held files.old) name.now ≡ Some file → end ≤ length file
+            → data_read file end (handle_read (handle_at value.now)) ≡ Ok (rows_of block.entries))) }
+    ensures told { (file : List ℕ) → file_of (F.held files.old) name.now ≡ Some file → end ≤ length file
+        → Stopped result (data_read file end (handle_read (handle_at value.now))) }
+    ensures device { result ≡ Err Stop.Device → IsTrue (misses (F.held files.old) name.now end)
+        ⊎ Rose (F.faults files.old) (F.faults files.new) }
+    ensures same_files { F.held files.new ≡ F.held files.old }
+    ensures counts { F.faults files.old ≤ F.faults files.new }
+{
     match take_handle(value) {
         None => unreachable!(),
         Some((handle, _)) => match draw_framed(alloc, files, name, end, handle) {
@@ -151,7 +165,13 @@ fn read_rows(
     block: &[u8],
     handle: Handle,
     entries: &mut Vec<Entry>,
-) -> Result<usize, Stop<BbtFault>> {
+) -> Result<usize, Stop<BbtFault>>
+    requires { length block.now ≤ 2 ^ 29 }
+    ensures added { IfOk result (λ place. (added : BlockAdded entries.old.items entries.new.items place)
+        × (then_open (rows_checked (bbt.Block handle) Entries block.now) (with_rows handle) ≡ Ok (rows_of added.entries))) }
+    ensures told { Stopped result (then_open (rows_checked (bbt.Block handle) Entries block.now) (with_rows handle)) }
+    ensures device { result ≢ Err Stop.Device }
+{
     match count_rows(alloc, block, RowForm::Entries) {
         Err(Refused::Cause(fault)) => Err(Stop::Damage(BbtFault::Block(handle, fault))),
         Err(Refused::Memory) => Err(Stop::Memory),

@@ -1,6 +1,6 @@
-use Rattle.std.proofs.Common.{Option, ap, ◌∙◌}
+use Rattle.std.proofs.Common.{◌≤◌, length, Option, ap, ◌∙◌, arith}
 use Rattle.sst_device.specs.Folder.{Files, file_of}
-use Rattle.sst_cli.proofs.OpenSteps.{stopped, after_end}
+use Rattle.sst_cli.proofs.OpenSteps.{stopped, loaded_length, after_load, whole_failed}
 use Rattle.sst_cli.proofs.bbt_reader.open.Goals as goal
 
 pub returns-in-Err-clause-told : goal.returns-in-Err-clause-told
@@ -8,4 +8,14 @@ returns-in-Err-clause-told g c = λ file told. rw (c.meta_stop.ensures) (stopped
 
 pub returns-in-Ok-clause-told : goal.returns-in-Ok-clause-told
 returns-in-Ok-clause-told g c = λ file told.
-    after_end c.open_index.result c.in-Ok.loaded file (c.in-Ok.ensures.told file told) (c.open_index.ensures.told file (ap (λ (h : Option Files). file_of h c.args.name.now) c.load.ensures.same_files ∙ told) (c.in-Ok.ensures.within file told))
+    let known = ap (λ (h : Option Files). file_of h c.args.name.now) c.load.ensures.same_files ∙ told in
+    let loaded = c.in-Ok.ensures.told file told in
+    let within : c.saturating_sub-end.result ≤ length file = omega (arith, c.saturating_sub-end.ensures, loaded_length file c.in-Ok.loaded loaded) in
+    after_load c.open_index.result c.in-Ok.loaded file c.saturating_sub-end.result loaded c.saturating_sub-end.ensures (c.open_index.ensures.told file known within)
+
+pub returns-in-Ok-clause-device : goal.returns-in-Ok-clause-device
+returns-in-Ok-clause-device g c = λ failed.
+    whole_failed (g.F.Folder.held c.args.files.now) (g.F.Folder.held c.load.new.files) c.args.name.now c.saturating_sub-end.result (g.F.Folder.faults c.args.files.now)
+    (g.F.Folder.faults c.load.new.files) (g.F.Folder.faults c.open_index.new.files) c.load.ensures.same_files c.load.ensures.counts
+    (λ file told. omega (arith, c.saturating_sub-end.ensures, loaded_length file c.in-Ok.loaded (c.in-Ok.ensures.told file told)))
+    (c.open_index.ensures.device failed)
