@@ -66,7 +66,12 @@ fn put_footer(out: &mut Vec<u8>, metaindex: Handle, index: Handle) -> Result<(),
 ///
 /// Where memory runs out, `out` holds its old bytes followed by any.
 /// RocksDB: `BlockBasedTableBuilder::Finish` in table/block_based/block_based_table_builder.cc.
-pub fn put_end(alloc: Global, out: &mut Vec<u8>, index: &[u8], sizes: Sizes) -> Result<(), Memory> {
+pub fn put_end(
+    alloc: Global,
+    out: &mut Vec<u8>,
+    index: &[u8],
+    sizes: Sizes,
+) -> Result<(), Memory> {
     let index_handle = Handle {
         offset: sizes.data_size,
         size: index.len() as u64,
