@@ -26,13 +26,15 @@
 //! output <----------- input N REASON               a line for each call           damage FAULT
 //! ```
 //!
-//! - Words: there are two commands, `write block OUT` and `calls FILE`. All others are Usage.
+//! - Words: there are two commands, `write block OUT`, perhaps with the option `block=N`, and `calls FILE`. All others are
+//!   Usage.
 //! - Lines: an input is a list of lines, each ended by LF. An entry line is `USER SEQ KIND VALUE`: the user key and the
 //!   value in hex digits or `-`, a decimal sequence number, and one of the letters D, P, M and S. A call line is one of
 //!   `get USER SEQ`, `first`, `last`, `seek USER SEQ`, `seek_for_prev USER SEQ`, `next` and `prev`.
 //! - Entries: each is after the one before and within the limits, as the writer has them. The first line that
 //!   isn't so ends the run, and its number and its first reason are printed.
-//! - File: all of a list that fits, the empty one too, in one block-based file.
+//! - File: all of a list that fits, the empty one too, in one block-based file. A data block is ended where it has as
+//!   many bytes as the option says, or 4096.
 //! - Calls: at most 1,048,576, all read and checked before FILE is opened. A line is printed for each: the entry that
 //!   is shown, `none`, or `not-positioned`.
 //!
@@ -99,8 +101,8 @@
 //! # For now
 //!
 //! A part whose crate comes later stands here, and moves unchanged: the metaindex (`load`); the
-//! writer (`bbt_writer`, `table_parts`); and the reader (`bbt_reader`). The whole file is made in memory, with one data
-//! block at most, and then added to OUT; a reader keeps all entries in memory.
+//! writer (`bbt_writer`, `table_parts`); and the reader (`bbt_reader`). The whole file is made in memory and then added to
+//! OUT; a reader keeps all entries in memory.
 #![tactic(auto)]
 
 mod answering;

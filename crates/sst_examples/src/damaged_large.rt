@@ -12,10 +12,19 @@ use std::process::Abort;
 use std::test::Fail;
 
 /// What follows 536,870,918 zeros: the block of 2^29 + 1 of them and its trailer.
-static BEHIND_ZEROS: [&[&str]; 3] = [
+static BEHIND_ZEROS: [&[&str]; 4] = [
     // The footer, by which the zeros are the metaindex.
     &[
         "010081808080020000",
+        "0000000000000000000000000000000000000000000000000000000000000000",
+        "02000000f7cff485b741e288",
+    ],
+    // The metaindex, whose one row says that the zeros are the properties, and the footer.
+    &[
+        "001206726f636b7364622e70726f70657274696573008180808002",
+        ONE_RESTART,
+        "0029be5ef8",
+        "018680808002230000",
         "0000000000000000000000000000000000000000000000000000000000000000",
         "02000000f7cff485b741e288",
     ],

@@ -8,7 +8,10 @@
 //! `Flush` in table/block_based/block_based_table_builder.cc.
 use crate::calls::{assert_answered, file_in_blocks};
 use crate::lists::numbered_lines;
-use crate::worked_run::{NAME, holds, other_is_as_it_was, printed, put_hex, written_with};
+use crate::worked_run::{
+    NAME, Object, answered_with, failing_at, holds, other_is_as_it_was, printed, put_hex,
+    written_with,
+};
 use crate::written_file::{Behind, put_behind};
 use sst_cli::Status;
 use std::alloc::Global;
@@ -138,6 +141,33 @@ fn calls_on_versions(rt: HostRuntime) -> Result<(), Fail> {
         let file = file_in_blocks(rt.alloc(), option, lines.as_str())?;
         assert_answered(&rt, rt.alloc(), &file, calls.as_str(), text.as_str())?;
     }
+    Ok(())
+}
+
+// The folder tells the length, and gives the footer, the metaindex, the properties, the index and three data blocks.
+#[test]
+fn each_failing_call(rt: HostRuntime) -> Result<(), Fail> {
+    let lines = version_lines(rt.alloc())?;
+    let file = file_in_blocks(rt.alloc(), "block=64", lines.as_str())?;
+    for number in 1..=8 {
+        let ran = answered_with(
+            rt.alloc(),
+            &file,
+            b"get 6b 1\n",
+            failing_at(Object::Folder, &[number]),
+        )?;
+        assert_eq!(rt; ran.status, Status::Device, "{number}");
+        assert!(rt; printed(&ran, ""), "{number}");
+        assert!(rt; holds(&ran, NAME, &file), "{number}");
+    }
+    let ran = answered_with(
+        rt.alloc(),
+        &file,
+        b"get 6b 1\n",
+        failing_at(Object::Folder, &[9]),
+    )?;
+    assert_eq!(rt; ran.status, Status::Done);
+    assert!(rt; printed(&ran, "none\n"));
     Ok(())
 }
 

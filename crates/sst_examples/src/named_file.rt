@@ -13,22 +13,28 @@ use sst_num::{Handle, put_handle};
 use std::alloc::Global;
 use std::test::Fail;
 
-/// The names in the metaindex: the properties, and the tombstones of ranges.
+/// The name in the metaindex of the properties.
 pub(crate) const PROPERTIES: &str = "rocksdb.properties";
 
+/// The name in the metaindex of the tombstones of ranges.
 pub(crate) const RANGE_DEL: &str = "rocksdb.range_del";
 
-/// The names of the properties that are looked at.
+/// The property that tells the type of the index.
 pub(crate) const INDEX_TYPE: &str = "rocksdb.block.based.table.index.type";
 
+/// That of the order of user keys.
 pub(crate) const COMPARATOR: &str = "rocksdb.comparator";
 
+/// That of the sequence number of all entries.
 pub(crate) const GLOBAL: &str = "rocksdb.external_sst_file.global_seqno";
 
+/// That of the version of a file made outside a database.
 pub(crate) const EXTERNAL: &str = "rocksdb.external_sst_file.version";
 
+/// That of the flag for user keys in the index.
 pub(crate) const USER_KEY: &str = "rocksdb.index.key.is.user.key";
 
+/// That of the flag for differences of handles in the index.
 pub(crate) const DELTA: &str = "rocksdb.index.value.is.delta.encoded";
 
 /// The handle of the index.
