@@ -1,7 +1,8 @@
 -- What a writer appends at the end is what stands behind the data blocks, and with it the file is the one of the list.
-use Rattle.std.proofs.Common.{◌≡◌, ℕ, ◌+◌, ◌^◌, ◌<◌, ◌≤◌, List, [], ◌∷◌, ◌++◌, length, length-append, refl, sym, ap, ◌∙◌, subst, sum_by, append_assoc, arith}
+use Rattle.std.proofs.Common.{◌≡◌, ℕ, ◌+◌, ◌^◌, ◌<◌, ◌≤◌, false, List, [], ◌∷◌, ◌++◌, length, length-append, refl, sym, ap, ◌∙◌, subst, sum_by, append_assoc, arith}
 use Rattle.sst_key.specs.declared.entries.Entry.{Entry}
-use Rattle.sst_block.specs.Builder.{row_room}
+use Rattle.sst_block.specs.declared.row_form.RowForm.TheVariants.{Entries, Index}
+use Rattle.sst_block.specs.Builder.{Holds}
 use Rattle.sst_block.proofs.Size.{block_of-le}
 use Rattle.sst_bbt_spec.specs.BlockBased.{BlockBased}
 use Rattle.sst_cli.specs.declared.bbt_writer.BbtWriter.{BbtWriter}
@@ -14,6 +15,7 @@ use Rattle.sst_cli.specs.Keeps.{Keeps, ended_last, with_room, with_entry}
 use Rattle.sst_cli.specs.Written.{Fits, Written, data_part, index_rows, index_block, sizes_of, end_part, file_of_blocks, table_of}
 use Rattle.sst_cli.proofs.CutSteps.{AreOf, cut_of-of, cut_of-steps, blocks-last}
 use Rattle.sst_cli.proofs.IndexRows.{index-room, data_part-le, weight-both}
+use Rattle.sst_cli.proofs.Rows.{Fits-nil}
 use Rattle.sst_cli.proofs.Stands.{stands}
 use Rattle.sst_key.specs.Entry.{weight}
 
@@ -150,3 +152,24 @@ keeps-other w new cut entries bytes kept same =
       weighs = kept.weighs;
       fits = kept.fits;
     })
+
+-- a writer keeps the list of no entry
+pub after-none : (w : BbtWriter) → w.failed ≡ false → Holds w.block Entries 16 [] → w.rows ≡ 0 → Holds w.index (Index false false) 1 []
+    → w.blocks ≡ 0 → w.data_size ≡ 0 → w.last.items ≡ [] → w.count ≡ 0 → w.keys ≡ 0 → w.values ≡ 0 → w.weight ≡ 0 → After w [] []
+unfolding cut_of
+after-none w sound block rows index blocks data_size last count keys values weighs =
+    record {
+      sound = sound;
+      block = block;
+      rows = rows;
+      index = index;
+      blocks = blocks;
+      data_size = data_size;
+      appended = refl;
+      last = last;
+      count = count;
+      keys = keys;
+      values = values;
+      weighs = weighs;
+      fits = Fits-nil;
+    }
