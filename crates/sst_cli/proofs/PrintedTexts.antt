@@ -5,12 +5,14 @@ use Rattle.std.proofs.lemmas.List.{append-nil}
 use Rattle.sst_key.specs.declared.entries.Entry.{Entry}
 use Rattle.sst_cli.specs.Reading.{read_input}
 use Rattle.sst_device.specs.Folder.{Files}
+use Rattle.sst_device.specs.Faults.{Rose}
 use Rattle.sst_cli.specs.Refusals.{refusal_text}
+use Rattle.sst_cli.specs.Words.{WriteLine}
 use Rattle.sst_cli.specs.Run.{IsWriteText, IsFault, HoldsWritten, Wrote, text_for, done_text}
 use Rattle.sst_cli.specs.Printed.{IsPrinted, Prints}
 use Rattle.sst_cli.specs.declared.refusal.Refusal.{Refusal}
 use Rattle.sst_cli.specs.declared.program.Status.{Status}
-use Rattle.sst_cli.specs.declared.program.Status.TheVariants.{Done, Input}
+use Rattle.sst_cli.specs.declared.program.Status.TheVariants.{Done, Input, Device}
 
 -- a printed text is whole, or a fault cut it short
 pub some_printed : (result status : Status) (text : List ℕ) (old new : Option (List ℕ)) (before now : ℕ)
@@ -46,17 +48,23 @@ pub not_both : (reading : Result (List Entry) Refusal) (entries : List Entry) (r
 not_both reading entries refusal a b = let both = sym a ∙ b in cc
 
 -- the file stands there and its text was printed
-pub done_printed : (result : Status) (count : ℕ) (name : List ℕ) (made entries : List Entry) (old new : Option Files) (left before now : Option (List ℕ)) (faults counted : ℕ)
+pub done_printed : (result : Status) (count : ℕ) (line : WriteLine) (made entries : List Entry) (old new : Option Files) (left before now : Option (List ℕ)) (faults counted : ℕ)
     → IsPrinted result Done (done_text count) before now faults counted → count ≡ length made → made ≡ entries
-    → HoldsWritten name made old new → left ≡ Some [] → IsFault result ⊎ Wrote result name entries old new left before now
-done_printed result count name made entries old new left before now faults counted (inl whole) counts same file read =
+    → HoldsWritten line made old new → left ≡ Some [] → IsFault result ⊎ Wrote result line entries old new left before now
+done_printed result count line made entries old new left before now faults counted (inl whole) counts same file read =
     inr (record {
       done = whole.ends;
-      file = subst (λ (es : List Entry). HoldsWritten name es old new) same file;
+      file = subst (λ (es : List Entry). HoldsWritten line es old new) same file;
       read = read;
       printed = whole.printed ∙ ap (λ n. append_known before (done_text n)) (counts ∙ ap length same);
     })
-done_printed result count name made entries old new left before now faults counted (inr short) counts same file read = inl short.ends
+done_printed result count line made entries old new left before now faults counted (inr short) counts same file read = inl short.ends
+
+-- where the device failed before all was printed, the sink counted it
+pub device_printed : (result : Status) (text : List ℕ) (old new : Option (List ℕ)) (before now : ℕ) → IsPrinted result Done text old new before now
+    → result ≡ Device → Rose before now
+device_printed result text old new before now (inl whole) fault = absurd (cc (whole.ends, fault))
+device_printed result text old new before now (inr short) fault = short.cause fault
 
 -- a refusal was printed
 pub refusal_printed : (result : Status) (some refusal : Refusal) (before now : Option (List ℕ)) (faults counted : ℕ)

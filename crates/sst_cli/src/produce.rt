@@ -22,11 +22,11 @@ pub fn produce<F: Folder, I: Intake>(
     files: &mut F,
     input: &mut I,
 ) -> Result<u64, InputStop>
-    ensures ok { IfOk result (λ count. HasProduced count (record { name = line.name.now; options = line.options }) (F.held files.old) (F.held files.new)
+    ensures ok { IfOk result (λ count. HasProduced count (record { name = line.entry.name.now; options = line.entry.options }) (F.held files.old) (F.held files.new)
         (I.left input.old) (I.left input.new)) }
     ensures refused { (refusal : Refusal) → result ≡ Err (InputStop.Refused refusal)
         → (text : List ℕ) → I.left input.old ≡ Some text → read_input text ≡ Err refusal }
-    ensures others { ChangesOnly line.name.now (F.held files.old) (F.held files.new) }
+    ensures others { ChangesOnly line.entry.name.now (F.held files.old) (F.held files.new) }
     ensures failed { result ≡ Err (InputStop.Device DevStop.Failed) → Rose (F.faults files.old) (F.faults files.new)
         ⊎ Rose (I.faults input.old) (I.faults input.new) }
 {

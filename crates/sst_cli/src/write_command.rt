@@ -27,7 +27,7 @@ pub fn write<F: Folder, I: Intake, O: Sink>(
 ) -> Status
     ensures written { (text : List ℕ) (entries : List Entry) → I.left input.old ≡ Some text
         → read_input text ≡ Ok entries
-        → IsFault result ⊎ Wrote result (record { name = line.name.now; options = line.options }) entries (F.held files.old) (F.held files.new) (I.left input.new)
+        → IsFault result ⊎ Wrote result (record { name = line.entry.name.now; options = line.entry.options }) entries (F.held files.old) (F.held files.new) (I.left input.new)
         (O.written out.old) (O.written out.new) }
     ensures refused { (text : List ℕ) (refusal : Refusal) → I.left input.old ≡ Some text → read_input text ≡ Err refusal
         → IsFault result ⊎ ((result ≡ Status.Input)
@@ -39,7 +39,7 @@ pub fn write<F: Folder, I: Intake, O: Sink>(
         → (refusal : Refusal) × (read_input text ≡ Err refusal) }
     ensures device { result ≡ Status.Device → Rose (F.faults files.old) (F.faults files.new)
         ⊎ (Rose (I.faults input.old) (I.faults input.new) ⊎ Rose (O.faults out.old) (O.faults out.new)) }
-    ensures others { ChangesOnly line.name.now (F.held files.old) (F.held files.new) }
+    ensures others { ChangesOnly line.entry.name.now (F.held files.old) (F.held files.new) }
 {
     match produce(alloc, line, files, input) {
         Ok(count) => print_done(alloc, out, count),
