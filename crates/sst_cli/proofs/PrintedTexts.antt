@@ -67,6 +67,12 @@ pub done_cause : (result : Status) (count : ℕ) (before now : Option (List ℕ)
 done_cause result count before now faults counted (inl whole) failed = let both = sym whole.ends ∙ failed in cc
 done_cause result count before now faults counted (inr short) failed = short.cause failed
 
+-- where the device failed before all was printed, the sink counted it
+pub device_printed : (result : Status) (text : List ℕ) (old new : Option (List ℕ)) (before now : ℕ) → IsPrinted result Done text old new before now
+    → result ≡ Device → Rose before now
+device_printed result text old new before now (inl whole) fault = absurd (cc (whole.ends, fault))
+device_printed result text old new before now (inr short) fault = short.cause fault
+
 -- a refusal was printed
 pub refusal_printed : (result : Status) (some refusal : Refusal) (before now : Option (List ℕ)) (faults counted : ℕ)
     → IsPrinted result Input (refusal_text some) before now faults counted → some ≡ refusal

@@ -2,7 +2,7 @@ use Rattle.std.proofs.Common.{length, Ok, Err, ap, inr}
 use Rattle.sst_cli.specs.Run.{text_for, done_text}
 use Rattle.sst_cli.specs.Refusals.{refusal_text}
 use Rattle.sst_cli.specs.Reading.{read_input}
-use Rattle.sst_cli.proofs.PrintedTexts.{some_printed, none_printed, text_that_says, some_text, same_entries, same_refusal, not_both, done_printed, done_cause, refusal_printed}
+use Rattle.sst_cli.proofs.PrintedTexts.{some_printed, none_printed, text_that_says, some_text, same_entries, same_refusal, not_both, done_printed, done_cause, device_printed, refusal_printed}
 use Rattle.sst_cli.proofs.write_command.write.Goals as goal
 
 pub returns-in-Ok-clause-printed : goal.returns-in-Ok-clause-printed
@@ -31,6 +31,10 @@ returns-in-Ok-clause-written g c = λ text entries told reads.
     let made = c.in-Ok.ensures.ok in
     let same = same_entries (read_input text) made.entries entries (made.said text told) reads in
     done_printed c.print_done.result c.in-Ok.count (record { name = c.args.line.name.now; options = c.args.line.options }) made.entries entries (g.F.Folder.held c.args.files.now) (g.F.Folder.held c.produce.new.files) (g.I.Intake.left c.produce.new.input) (g.O.Sink.written c.args.out.now) (g.O.Sink.written c.print_done.new.out) (g.O.Sink.faults c.args.out.now) (g.O.Sink.faults c.print_done.new.out) c.print_done.ensures made.counted same made.file (made.read text told)
+
+pub returns-in-Ok-clause-device : goal.returns-in-Ok-clause-device
+returns-in-Ok-clause-device g c = λ fault.
+    inr (inr (device_printed c.print_done.result _ (g.O.Sink.written c.args.out.now) (g.O.Sink.written c.print_done.new.out) (g.O.Sink.faults c.args.out.now) (g.O.Sink.faults c.print_done.new.out) c.print_done.ensures fault))
 
 pub returns-in-Ok-clause-refused : goal.returns-in-Ok-clause-refused
 returns-in-Ok-clause-refused g c = λ text refusal told reads.
