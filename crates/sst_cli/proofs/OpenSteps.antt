@@ -32,7 +32,7 @@ use Rattle.sst_cli.specs.Opening.{RowBlock, with_rows, data_read, handle_read, i
 use Rattle.sst_cli.specs.Reader.{Opened, BlockAdded, Stopped}
 use Rattle.sst_cli.specs.declared.bbt_fault.BbtFault.{BbtFault}
 use Rattle.sst_cli.specs.declared.bbt_fault.BbtFault.TheVariants as bbt
-use Rattle.sst_cli.proofs.ReadSteps.{then_open-ok}
+use Rattle.sst_meta.proofs.ReadSteps.{then_open-ok}
 
 -- a block that was checked reads as so many rows
 pub read_rows : (form : RowForm) (bytes : List ℕ) (n : ℕ) → Gives (Ok n) (block_read form bytes)

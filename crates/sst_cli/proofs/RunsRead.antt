@@ -14,7 +14,7 @@ use Rattle.sst_cli.specs.Opening.{RowBlock, handle_read, handle_of, data_read, l
 use Rattle.sst_cli.specs.TableBlocks.{row_block_of, row_blocks_of}
 use Rattle.sst_cli.specs.Reader.{Opened, Stopped}
 use Rattle.sst_cli.specs.declared.bbt_fault.BbtFault.{BbtFault}
-use Rattle.sst_cli.proofs.ReadSteps.{then_open-ok}
+use Rattle.sst_meta.proofs.ReadSteps.{then_open-ok}
 
 -- one row more
 runs_read-push : (file : List ℕ) (end : ℕ) (front : List Row) (row : Row) (blocks : List RowBlock) (block : RowBlock) → runs_read file end front ≡ Ok blocks
