@@ -1,5 +1,5 @@
 -- The rows of a block as a walk over them gives them, and the entries that they are.
-use Rattle.std.proofs.Common.{◌≡◌, ℕ, ◌≤◌, ◌+◌, List, [], ◌∷◌, ◌++◌, length, take, All, Some, slice_get, sym, ap, ◌∙◌, subst, arith}
+use Rattle.std.proofs.Common.{◌≡◌, ℕ, ◌≤◌, ◌+◌, List, [], ◌∷◌, ◌++◌, length, take, All, sym, ap, ◌∙◌, subst, arith}
 use Rattle.std.proofs.lemmas.List.{take_all, append_assoc}
 use Rattle.std.proofs.lemmas.List.Elements.{All-nil, All-cons, All-head, All-tail, All-get_or}
 use Rattle.std.proofs.lemmas.Option.{slice_get_within, get_or_from_slice_get}
@@ -10,7 +10,7 @@ use Rattle.sst_block.specs.declared.row_form.RowForm.TheVariants.{Entries}
 use Rattle.sst_block.specs.Block.{Row, Block, IsRow, IsInternalKey, AreOrdered}
 use Rattle.sst_block.specs.Iter.{Walks, place_of}
 use Rattle.sst_block.specs.Reading.{Reads}
-use Rattle.sst_block.proofs.RowsCopied.{KeyAt, ValueAt, walks-at, same_row, one_more}
+use Rattle.sst_block.proofs.RowsCopied.{KeyAt, ValueAt, same_row, one_more}
 use Rattle.sst_bbt_spec.specs.Rows.{row_of, rows_of, HasSeq}
 use Rattle.sst_bbt_spec.proofs.EntriesOfRows.{entries-ordered}
 use Rattle.sst_cli.specs.TableBlocks.{AreEntries}

@@ -17,7 +17,6 @@ use Rattle.sst_device.specs.Faults.{Rose}
 use Rattle.sst_device.specs.Folder.{Files, file_of, misses, ends_before}
 use Rattle.sst_device.specs.Stops.{Answers, stop_as}
 use Rattle.sst_device.specs.FrameReading.{frame_read}
-use Rattle.sst_device.specs.declared.frame.FrameFault.{FrameFault}
 use Rattle.sst_meta.specs.BlockFooter.{footer_start}
 use Rattle.sst_meta.specs.Blocks.{then_open, rows_checked, block_at}
 use Rattle.sst_meta.specs.FooterReading.{last_bytes}
@@ -28,8 +27,8 @@ use Rattle.sst_meta.specs.declared.meta_fault.MetaFault.{MetaFault}
 use Rattle.sst_meta.specs.declared.meta_fault.MetaFault.TheVariants as meta
 use Rattle.sst_bbt_spec.specs.Rows.{row_of, rows_of}
 use Rattle.sst_cli.specs.TableBlocks.{Table, AreEntries}
-use Rattle.sst_cli.specs.Opening.{RowBlock, with_rows, data_read, handle_read, index_read, blocks_read}
-use Rattle.sst_cli.specs.Reader.{Opened, BlockAdded, Stopped}
+use Rattle.sst_cli.specs.Opening.{with_rows, data_read, handle_read, index_read, blocks_read}
+use Rattle.sst_cli.specs.Reader.{Opened, BlockAdded}
 use Rattle.sst_cli.specs.declared.bbt_fault.BbtFault.{BbtFault}
 use Rattle.sst_cli.specs.declared.bbt_fault.BbtFault.TheVariants as bbt
 use Rattle.sst_meta.proofs.ReadSteps.{then_open-ok}
@@ -63,10 +62,11 @@ rows_added block h n place before now gives some all ends =
     let r = read_rows Entries block n gives in
     let a = all r.0 r.1 r.2 in
     let many : length a.0 ≡ n = sym (length-map a.0 row_of) ∙ sym (ap length a.2) ∙ r.2 in
-    let one = positive n some in
-    (record { entries = a.0; appended = a.1; ends = ends; some = omega (arith, many, one); are = a.3 },
+    let one = positive n some in (
+      record { entries = a.0; appended = a.1; ends = ends; some = omega (arith, many, one); are = a.3 },
       ap (λ (rows : Result (List Row) BbtFault). then_open rows (with_rows h)) (checked-rows (bbt.Block h) Entries block r.0 r.1)
-      ∙ some_rows h r.0 (omega (arith, r.2, one)) ∙ ap Ok a.2)
+          ∙ some_rows h r.0 (omega (arith, r.2, one)) ∙ ap Ok a.2,
+    )
 
 -- the rows of the data block to which a value leads
 pub led_rows : (file : List ℕ) (end : ℕ) (value : List ℕ) (h : Handle) (used : ℕ) (block shown : List ℕ) (rows : List Row) → Some (h, used) ≡ handle_at value

@@ -1,7 +1,7 @@
 -- A walk over the rows of an index whose data blocks are read, row by row.
-use Rattle.std.proofs.Common.{◌≡◌, ◌⊎◌, inl, inr, IsTrue, ℕ, ◌+◌, ◌<◌, ◌≤◌, ◌^◌, false, List, [], ◌∷◌, ◌++◌, length, take, All, Option, Some, Result, Ok, Err, slice_get, refl, sym, ap, ◌∙◌, subst, arith}
+use Rattle.std.proofs.Common.{◌≡◌, ◌⊎◌, inl, inr, IsTrue, ℕ, ◌<◌, ◌≤◌, ◌^◌, false, List, length, take, All, Option, Some, Result, Ok, Err, sym, ap, ◌∙◌, subst, arith}
 use Rattle.std.proofs.lemmas.List.{take_all}
-use Rattle.std.proofs.lemmas.List.Elements.{All-nil, All-get_or}
+use Rattle.std.proofs.lemmas.List.Elements.{All-get_or}
 use Rattle.std.proofs.lemmas.Option.{slice_get_within, get_or_from_slice_get}
 use Rattle.sst_num.specs.declared.stops.Stop.{Stop}
 use Rattle.sst_num.specs.declared.stops.Stop.TheVariants.{Device}
@@ -12,7 +12,7 @@ use Rattle.sst_block.specs.Block.{Row, IsRow, IsHandle}
 use Rattle.sst_block.specs.Iter.{Walks, place_of}
 use Rattle.sst_block.specs.Reading.{Reads}
 use Rattle.sst_block.proofs.BlockRead.{read-sound}
-use Rattle.sst_block.proofs.RowsCopied.{KeyAt, ValueAt, walks-at}
+use Rattle.sst_block.proofs.RowsCopied.{ValueAt, walks-at}
 use Rattle.sst_device.specs.Folder.{Files, file_of, misses}
 use Rattle.sst_device.specs.Faults.{Rose}
 use Rattle.sst_bbt_spec.specs.Way.{IndexedBlock}

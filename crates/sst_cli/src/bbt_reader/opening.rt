@@ -142,7 +142,7 @@ fn read_block<F: Folder>(
     requires { IsHandle value.now }
     ensures added { IfOk result (λ place. (block : BlockAdded entries.old.items entries.new.items place)
         × ((file : List ℕ) → file_of (F.held files.old) name.now ≡ Some file → end ≤ length file
-            → data_read file end (handle_read (handle_at value.now)) ≡ Ok (rows_of block.entries))) }
+        → data_read file end (handle_read (handle_at value.now)) ≡ Ok (rows_of block.entries))) }
     ensures told { (file : List ℕ) → file_of (F.held files.old) name.now ≡ Some file → end ≤ length file
         → Stopped result (data_read file end (handle_read (handle_at value.now))) }
     ensures device { result ≡ Err Stop.Device → IsTrue (misses (F.held files.old) name.now end)

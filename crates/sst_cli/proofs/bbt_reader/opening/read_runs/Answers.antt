@@ -1,4 +1,4 @@
-use Rattle.std.proofs.Common.{List, None, Option, Ok, refl, sym, ap, ◌∙◌, subst, arith}
+use Rattle.std.proofs.Common.{List, None, Option, Ok, refl, sym, ap, ◌∙◌, arith}
 use Rattle.std.proofs.lemmas.List.Elements.{All-nil}
 use Rattle.std.proofs.lemmas.Result.{err_from_is_err_and}
 use Rattle.sst_block.specs.Block.{Row}
@@ -81,7 +81,7 @@ loop-row-preserved g c =
     let so = c.loop-row.invariant in
     let b = c.in_ok-place.ensures.added in
     let more = blocks_more c.loop-row.ends.items c.add_end.new.ends.items c.loop-row.entries.items c.read_block.new.entries.items c.key.result.now c.in_ok-place.place
-        so.runs.are c.in_ok-add_end.ensures b.0 in
+    so.runs.are c.in_ok-add_end.ensures b.0 in
     let walks = λ (rows : List Row) (is : RowsIn c.args.index.now c.args.count rows). stands c.args.index.now c.args.count c.loop-row.rows rows c.loop-row._row is c.loop-row-test.true (so.runs.walks rows is) in
     record {
       runs = record {
