@@ -72,7 +72,7 @@ point-count p (x ∷ xs) zero within point =
 point-count p (x ∷ xs) (suc i) within point =
     let passes : p x ≡ true = point.0 zero x (omega arith) (omega arith) in
     let more = point-count p xs i (omega arith)
-      (λ j d low high. point.0 (suc j) d (omega arith) (omega arith), λ j d low high. point.1 (suc j) d (omega arith) (omega arith)) in
+    (λ j d low high. point.0 (suc j) d (omega arith) (omega arith), λ j d low high. point.1 (suc j) d (omega arith) (omega arith)) in
     omega (arith, count-yes p x xs passes, more)
 
 -- ---- separators

@@ -68,7 +68,7 @@ leads-by is_before test start x rest entries (suc k) b true passes (low, within,
     record {
       n = length (part entries start x.end) + led.n;
       is = ap (λ (v : Bool). cond v (option_map (λ n. length (part entries start x.end) + n) (passed is_before test (blocks_from x.end rest entries))) (Some (count_by test (part entries start x.end)))) passes
-        ∙ ap (option_map (λ n. length (part entries start x.end) + n)) led.is;
+          ∙ ap (option_map (λ n. length (part entries start x.end) + n)) led.is;
       sum = omega (arith, long, sum, low);
     }
 leads-by is_before test start x rest entries zero b false fails are last later count at =
@@ -117,7 +117,7 @@ pub seek-into : (table : Table) (user : List ℕ) (seq i : ℕ) (b : BlockEnd) �
     → place_in table.entries (start_at 0 table.ends i + below (part table.entries (start_at 0 table.ends i) b.end) user seq) ≡ way_seek (blocks_of table) user seq
 seek-into table user seq i b is count at =
     let led = leads-into (is_separator_before user (seek_tag seq)) (is_before_target user seq) 0 table.ends table.entries i b
-      is.ends (before-falls user (seek_tag seq) table.ends is.ordered) count at in
+    is.ends (before-falls user (seek_tag seq) table.ends is.ordered) count at in
     let sum = led.sum in
     let place : start_at 0 table.ends i + below (part table.entries (start_at 0 table.ends i) b.end) user seq ≡ led.n = omega (arith, sum) in
     ap (place_in table.entries) place
@@ -135,7 +135,7 @@ pub prev-into : (table : Table) (user : List ℕ) (seq i : ℕ) (b : BlockEnd) �
     → place_before (start_at 0 table.ends i + up_to (part table.entries (start_at 0 table.ends i) b.end) user seq) ≡ way_seek_for_prev (blocks_of table) user seq
 prev-into table user seq i b is count at =
     let led = leads-into (is_separator_before user (seek_for_prev_tag seq)) (is_up_to_target user seq) 0 table.ends table.entries i b
-      is.ends (before-falls user (seek_for_prev_tag seq) table.ends is.ordered) count at in
+    is.ends (before-falls user (seek_for_prev_tag seq) table.ends is.ordered) count at in
     let sum = led.sum in
     let place : start_at 0 table.ends i + up_to (part table.entries (start_at 0 table.ends i) b.end) user seq ≡ led.n = omega (arith, sum) in
     ap place_before place ∙ sym (ap (last_passed (joined (blocks_of table))) led.is)

@@ -21,7 +21,7 @@ const PIECE: usize = 65_536;
 /// Answers a Get with a cursor of its own.
 fn look_up<'r>(reader: &'r BbtReader, target: &Target) -> (Reply, Option<EntryView<'r>>)
     ensures exact { (position : Option ℕ) → Comes result.0 position (shows position (way_get (blocks_of reader.now) target.now.user target.now.seq)) }
-    ensures shown { (position : Option ℕ) → lent result.1 ≡ entry_shown reader.now.entries
+    ensures shown { (position : Option ℕ) → lent result.1 ≡ entry_shown (joined (blocks_of reader.now))
         (shows position (way_get (blocks_of reader.now) target.now.user target.now.seq)) }
 {
     let mut found = reader.cursor();
@@ -38,6 +38,7 @@ fn at<'r>(reader: &'r BbtReader, reply: Reply, position: &Cursor) -> (Reply, Opt
     requires { Belongs reader.now.entries position.now }
     ensures reply { result.0 ≡ reply }
     ensures shown { lent result.1 ≡ option_and_then (λ i. slice_get reader.now.entries i) position.now }
+    ensures joined { joined (blocks_of reader.now) ≡ reader.now.entries }
 {
     (reply, reader.entry(position))
 }

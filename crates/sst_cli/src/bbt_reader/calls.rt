@@ -6,7 +6,7 @@ ghost use Rattle.sst_key.specs.ListMachine as machine;
 ghost use Rattle.sst_cli.specs.Cursors.{Belongs, Comes, lent};
 ghost use Rattle.sst_cli.specs.TableBlocks.{blocks_of, start_at};
 ghost use Rattle.sst_cli.specs.declared.bbt_reader.BlockEnd.{BlockEnd};
-ghost use Rattle.sst_bbt_spec.specs.Way.{is_separator_before, seek_tag, seek_for_prev_tag, way_seek, way_get, way_seek_for_prev};
+ghost use Rattle.sst_bbt_spec.specs.Way.{joined, way_seek, way_get, way_seek_for_prev};
 
 use crate::bbt_reader::BbtReader;
 use crate::block_search::{blocks_before_seek, blocks_before_seek_for_prev};
@@ -99,6 +99,7 @@ impl BbtReader {
     fn seek_place(&self, user: &[u8], seq: u64) -> Option<usize>
         ensures place { result ≡ way_seek (blocks_of self.now) user.now seq }
         ensures belongs { Belongs self.now.entries result }
+        ensures joined { joined (blocks_of self.now) ≡ self.now.entries }
     {
         let i = blocks_before_seek(&self.ends, user, seq);
         if i < self.ends.len() {
@@ -229,10 +230,11 @@ impl BbtReader {
         }
     }
 
-    /// The entry on which the cursor stands, lent; none where it stands nowhere.
+    /// The entry on which the cursor stands, lent; none where it stands nowhere. It is one of a block.
     pub fn entry(&self, c: &Cursor) -> Option<EntryView<'_>>
         requires { Belongs self.now.entries c.now }
-        ensures { lent result ≡ option_and_then (λ i. slice_get self.now.entries i) c.now }
+        ensures lent { lent result ≡ option_and_then (λ i. slice_get self.now.entries i) c.now }
+        ensures joined { joined (blocks_of self.now) ≡ self.now.entries }
     {
         let entry = self.entries.get(c.place?)?;
         Some(EntryView {

@@ -1,6 +1,7 @@
 use Rattle.std.proofs.Common.{arith, length, ◌≤◌, ◌<◌, ◌+◌, ◌∙◌, sym, subst, ap}
 use Rattle.sst_bbt_spec.specs.Way.{seek_tag}
 use Rattle.sst_cli.specs.TableBlocks.{Table, IsTable}
+use Rattle.sst_cli.proofs.JoinedBlocks.{joined-table}
 use Rattle.sst_cli.proofs.WayOfBlocks.{seek-past}
 use Rattle.sst_cli.proofs.Landings.{at_block, items-ordered, below-within, seek-here, counted, past}
 use Rattle.sst_cli.proofs.bbt_reader.BbtReader.seek_place.Goals as goal
@@ -31,3 +32,9 @@ pub returns-else-i-len-clause-place : goal.returns-else-i-len-clause-place
 returns-else-i-len-clause-place c =
     let count = counted _ c.args.self.now c.deref.result.now c.args.user.now (seek_tag c.args.seq) c.blocks_before_seek-i.result c.self.view_is c.deref.ensures.value c.blocks_before_seek-i.ensures in
     seek-past c.args.self.now c.args.user.now c.args.seq c.blocks_before_seek-i.result count (past _ c.args.self.now c.blocks_before_seek-i.result c.self.view_is (omega arith))
+
+pub returns-then-i-len-clause-joined : goal.returns-then-i-len-clause-joined
+returns-then-i-len-clause-joined c = joined-table c.args.self.now (subst IsTable c.self.view_is c.self.invariant)
+
+pub returns-else-i-len-clause-joined : goal.returns-else-i-len-clause-joined
+returns-else-i-len-clause-joined c = joined-table c.args.self.now (subst IsTable c.self.view_is c.self.invariant)
