@@ -11,7 +11,7 @@ use Rattle.sst_cli.specs.Cursors.{Belongs}
 use Rattle.sst_cli.specs.TableBlocks.{Table, IsTable, AreEntries, blocks_of, start_at}
 use Rattle.sst_cli.specs.declared.bbt_reader.BlockEnd.{BlockEnd}
 use Rattle.sst_cli.proofs.BlockSearch.{is_block_before}
-use Rattle.sst_cli.proofs.WayOfBlocks.{part, length-part, block-within, block-has, seek-into, seek-past, prev-into, prev-past}
+use Rattle.sst_cli.proofs.WayOfBlocks.{part, length-part, block-within, block-has, seek-into, prev-into}
 
 -- the i-th block of a table begins at `start`, and these are its entries
 pub record AtBlock (now : Table) (i start : ℕ) (items : List Entry) : Type 0 where
