@@ -58,11 +58,10 @@ index-ordered at ([] ∷ next ∷ rest) filled ordered limits = let some = All-h
 index-ordered at ((x ∷ block) ∷ [] ∷ rest) filled ordered limits =
     let some = All-head HasEntry [] rest (All-tail HasEntry (x ∷ block) ([] ∷ rest) filled) in absurd (omega arith)
 index-ordered at ((x ∷ block) ∷ (e ∷ next) ∷ rest) filled ordered limits =
-    let all = entries_in ((e ∷ next) ∷ rest) in
-    (
+    let all = entries_in ((e ∷ next) ∷ rest) in (
       block-before x block e next (entries_in rest) ordered limits,
       index-ordered (at + stored_length (data_block (x ∷ block))) ((e ∷ next) ∷ rest) (All-tail HasEntry (x ∷ block) ((e ∷ next) ∷ rest) filled)
-      (ordered-back (x ∷ block) all ordered) (limits-back (x ∷ block) all limits),
+          (ordered-back (x ∷ block) all ordered) (limits-back (x ∷ block) all limits),
     )
 
 -- the last key of a block takes less than the block weighs
