@@ -3,7 +3,7 @@
 -- RocksDB: FlushBlockBySizePolicy::Update in table/block_based/flush_block_policy.cc; option `block_size` in
 -- include/rocksdb/table.h. RocksDB also looks ahead to the next entry; ending a block by what it has alone is this
 -- project's own.
-use Rattle.std.specs.Prelude.{◌≡◌, ℕ, ◌<◌, ◌≤◌, ◌&&◌, nat_lt, nat_le, Bool, if◌then◌else◌, List, [], ◌∷◌, ◌++◌, length, fold, IsTrue}
+use Rattle.std.specs.Prelude.{◌≡◌, ℕ, ◌<◌, ◌&&◌, nat_lt, nat_le, Bool, if◌then◌else◌, List, [], ◌∷◌, ◌++◌, length, IsTrue}
 use Rattle.sst_key.specs.declared.entries.Entry.{Entry}
 use Rattle.sst_block.specs.Chosen.{block_of}
 use Rattle.sst_bbt_spec.specs.Rows.{rows_of}

@@ -2,7 +2,7 @@
 -- RocksDB: BlockBasedTableBuilder::Add and Finish in table/block_based/block_based_table_builder.cc; PropertyBlockBuilder
 -- and MetaIndexBuilder in table/meta_blocks.cc. The choices are this project's own. For now each separator is the last key
 -- of its block.
-use Rattle.std.specs.Prelude.{◌≡◌, ℕ, ◌+◌, ◌^◌, ◌<◌, ◌≤◌, List, [], ◌∷◌, ◌++◌, length, sum_by, All}
+use Rattle.std.specs.Prelude.{◌≡◌, ℕ, ◌+◌, ◌^◌, ◌≤◌, List, [], ◌∷◌, ◌++◌, length, sum_by, All}
 use Rattle.std.specs.List.{flat_map}
 use Rattle.sst_num.specs.Spelling.{fixed, varint, handle_spelling}
 use Rattle.sst_num.specs.declared.block_handle.Handle.{Handle}

@@ -1,0 +1,76 @@
+-- What a part of a list that is written has of the list, and its last entry.
+use Rattle.std.proofs.Common.{◌≡◌, ◌≤◌, List, [], ◌∷◌, ◌++◌, All, refl, ◌∙◌, arith}
+use Rattle.std.proofs.lemmas.List.Elements.{All-head, All-tail}
+use Rattle.std.proofs.lemmas.List.Sums.{sum_by-append, sum_by-cons}
+use Rattle.std.specs.declared.cmp.Ordering.TheVariants.{Less}
+use Rattle.sst_key.specs.declared.entries.Entry.{Entry}
+use Rattle.sst_key.specs.Entry.{key_of, IsBefore, IsOrdered, entry_weight, weight}
+use Rattle.sst_key.specs.InternalKey.{internal_cmp}
+use Rattle.sst_key.proofs.KeyParts.{internal_cmp-entries, less-from_IsBefore}
+use Rattle.sst_key.proofs.TargetOrder.{IsBefore-trans}
+use Rattle.sst_block.specs.Builder.{last_key}
+use Rattle.sst_bbt_spec.specs.Rows.{rows_of}
+use Rattle.sst_bbt_spec.proofs.WayLaws.{All-front, All-back}
+use Rattle.sst_cli.specs.Written.{IsInLimits, Fits}
+
+-- the last entry of a list with an entry
+abbrev pub last_entry : Entry → List Entry → Entry
+last_entry e [] = e
+last_entry e (f ∷ rest) = last_entry f rest
+
+pub last_key-entry : (e : Entry) (rest : List Entry) → last_key (key_of e) (rows_of rest) ≡ key_of (last_entry e rest)
+last_key-entry e [] = refl
+last_key-entry e (f ∷ rest) = last_key-entry f rest
+
+pub last_entry-limits : (e : Entry) (rest : List Entry) → All IsInLimits (e ∷ rest) → IsInLimits (last_entry e rest)
+last_entry-limits e [] limits = All-head IsInLimits e [] limits
+last_entry-limits e (f ∷ rest) limits = last_entry-limits f rest (All-tail IsInLimits e (f ∷ rest) limits)
+
+-- it weighs no more than the list
+pub last_entry-weight : (e : Entry) (rest : List Entry) → entry_weight (last_entry e rest) ≤ weight (e ∷ rest)
+last_entry-weight e [] = omega (arith, sum_by-cons entry_weight e [])
+last_entry-weight e (f ∷ rest) = omega (arith, last_entry-weight f rest, sum_by-cons entry_weight e (f ∷ rest))
+
+ordered-front : (xs ys : List Entry) → IsOrdered (xs ++ ys) → IsOrdered xs
+ordered-front [] ys ordered = tt
+ordered-front (a ∷ []) ys ordered = tt
+ordered-front (a ∷ b ∷ xs) ys ordered = (ordered.0, ordered-front (b ∷ xs) ys ordered.1)
+
+ordered-tail : (a : Entry) (xs : List Entry) → IsOrdered (a ∷ xs) → IsOrdered xs
+ordered-tail a [] ordered = tt
+ordered-tail a (b ∷ xs) ordered = ordered.1
+
+ordered-back : (xs ys : List Entry) → IsOrdered (xs ++ ys) → IsOrdered ys
+ordered-back [] ys ordered = ordered
+ordered-back (a ∷ xs) ys ordered = ordered-back xs ys (ordered-tail a (xs ++ ys) ordered)
+
+-- the last entry of a part is before the first behind the part
+pub last-before : (e : Entry) (rest : List Entry) (f : Entry) (more : List Entry) → IsOrdered ((e ∷ rest) ++ (f ∷ more)) → IsBefore (last_entry e rest) f
+last-before e [] f more ordered = ordered.0
+last-before e (x ∷ rest) f more ordered = last-before x rest f more ordered.1
+
+-- what is before the first is before the last
+pub before-last : (x f : Entry) (more : List Entry) → IsBefore x f → IsOrdered (f ∷ more) → IsBefore x (last_entry f more)
+before-last x f [] before ordered = before
+before-last x f (g ∷ more) before ordered = before-last x g more (IsBefore-trans x f g before ordered.0) ordered.1
+
+-- entries in order have keys in order
+pub keys-less : (a b : Entry) → IsInLimits a → IsInLimits b → IsBefore a b → internal_cmp (key_of a) (key_of b) ≡ Less
+keys-less a b la lb before = internal_cmp-entries a b la.seq lb.seq ∙ less-from_IsBefore a b before
+
+-- the parts of a list that is written are written
+pub fits-front : (xs ys : List Entry) → Fits (xs ++ ys) → Fits xs
+fits-front xs ys fits =
+    record {
+      ordered = ordered-front xs ys fits.ordered;
+      limits = All-front IsInLimits xs ys fits.limits;
+      light = omega (arith, fits.light, sum_by-append entry_weight xs ys);
+    }
+
+pub fits-back : (xs ys : List Entry) → Fits (xs ++ ys) → Fits ys
+fits-back xs ys fits =
+    record {
+      ordered = ordered-back xs ys fits.ordered;
+      limits = All-back IsInLimits xs ys fits.limits;
+      light = omega (arith, fits.light, sum_by-append entry_weight xs ys);
+    }
