@@ -1,5 +1,5 @@
 -- What the loop over the lines of an input keeps.
-use Rattle.std.proofs.Common.{ℕ, ◌-◌, ◌*◌, ◌^◌, ◌<◌, ◌≤◌, List, [], ◌∷◌, ◌++◌, length, Option, refl, arith}
+use Rattle.std.proofs.Common.{◌≡◌, ℕ, ◌-◌, ◌*◌, ◌^◌, ◌<◌, ◌≤◌, List, [], ◌∷◌, ◌++◌, length, Option, refl, arith}
 use Rattle.sst_key.specs.declared.entries.Entry.{Entry}
 use Rattle.sst_key.specs.Entry.{weight, entry_weight}
 use Rattle.std.proofs.lemmas.Bool.{lt-ltb}
@@ -17,11 +17,12 @@ unfolding read_line
 read_line-limited entries line long = rw (lt-ltb 40000000 (length line) long) refl
 
 -- the entries so far were added, and reading the whole input is reading on after them
-pub record Adding (start left : Option (List ℕ)) (writer : BbtWriter) (file : List ℕ) (before faults : ℕ) : Type 0 where
+pub record Adding (start left : Option (List ℕ)) (first writer : BbtWriter) (file : List ℕ) (before faults : ℕ) : Type 0 where
   pub entries : List Entry
   pub after : After writer entries file
   pub said : IsReadTo read_line entries start left
   pub counts : before ≤ faults
+  pub options : writer.options ≡ first.options
 
 -- each entry weighs 64 at least
 pub weight-many : (entries : List Entry) → 64 * length entries ≤ weight entries

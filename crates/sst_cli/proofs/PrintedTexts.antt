@@ -61,11 +61,11 @@ done_printed result count line made entries old new left before now faults count
     })
 done_printed result count line made entries old new left before now faults counted (inr short) counts same file read = inl short.ends
 
--- and where that failed, the sink did
-pub done_cause : (result : Status) (count : ℕ) (before now : Option (List ℕ)) (faults counted : ℕ)
-    → IsPrinted result Done (done_text count) before now faults counted → result ≡ Device → Rose faults counted
-done_cause result count before now faults counted (inl whole) failed = let both = sym whole.ends ∙ failed in cc
-done_cause result count before now faults counted (inr short) failed = short.cause failed
+-- where the device failed before all was printed, the sink counted it
+pub device_printed : (result : Status) (text : List ℕ) (old new : Option (List ℕ)) (before now : ℕ) → IsPrinted result Done text old new before now
+    → result ≡ Device → Rose before now
+device_printed result text old new before now (inl whole) fault = absurd (cc (whole.ends, fault))
+device_printed result text old new before now (inr short) fault = short.cause fault
 
 -- a refusal was printed
 pub refusal_printed : (result : Status) (some refusal : Refusal) (before now : Option (List ℕ)) (faults counted : ℕ)

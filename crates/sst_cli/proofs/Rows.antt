@@ -38,7 +38,7 @@ rows_of-forms (e ∷ rest) limits =
     All-cons (IsRow Entries) (row_of e) (rows_of rest) (row_of-is_row e (All-head IsInLimits e rest limits)) (rows_of-forms rest (All-tail IsInLimits e rest limits))
 
 -- entries in order have keys in order
-less-keys : (a b : Entry) → IsInLimits a → IsInLimits b → IsBefore a b → internal_cmp (key_of a) (key_of b) ≡ Less
+pub less-keys : (a b : Entry) → IsInLimits a → IsInLimits b → IsBefore a b → internal_cmp (key_of a) (key_of b) ≡ Less
 less-keys a b la lb before = internal_cmp-entries a b la.seq lb.seq ∙ less-from_IsBefore a b before
 
 pub rows_of-ordered : (entries : List Entry) → All IsInLimits entries → IsOrdered entries → AreOrdered Entries (rows_of entries)

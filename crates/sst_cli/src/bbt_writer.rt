@@ -12,14 +12,16 @@ ghost use Rattle.sst_block.specs.declared.row_form.RowForm.TheVariants.{Entries,
 ghost use Rattle.sst_cli.specs.After.{After, HasFailed, IsInUse};
 ghost use Rattle.sst_cli.specs.Reasons.{reason, is_after};
 ghost use Rattle.sst_bbt_spec.specs.Rows.{rows_of};
-ghost use Rattle.sst_cli.specs.Written.{Fits, Written};
+ghost use Rattle.sst_cli.specs.Cut.{Blocks, is_full};
+ghost use Rattle.sst_cli.specs.Keeps.{Keeps, KeepsSome, ended_now, ended_last, with_room, with_entry};
+ghost use Rattle.sst_cli.specs.Written.{Fits, Written, end_part, sizes_of};
 
 use crate::bbt_options::BbtOptions;
 use crate::properties::Sizes;
 use crate::table_parts::{TRAILER_LENGTH, put_end};
 use sst_block::{BlockBuilder, RowForm};
-use sst_key::{EntryView, WriteFault, cmp_internal, pack};
 use sst_device::put_frame;
+use sst_key::{EntryView, WriteFault, cmp_internal, pack};
 use sst_num::{Handle, Memory, Refused, put_handle};
 use std::alloc::Global;
 use std::mem;
@@ -186,14 +188,17 @@ impl BbtWriter {
             return Err(Memory);
         }
         let mut writer = self;
-        if writer.rows > 0 {
-            writer.end_block(out)?;
-        }
+        writer.end_last(out)?;
         writer.put_rest(out)
     }
 
     /// Appends what stands behind the data blocks, all of which are ended, and answers how many entries there are.
-    fn put_rest(self, out: &mut Vec<u8>) -> Result<u64, Memory> {
+    fn put_rest(self, out: &mut Vec<u8>) -> Result<u64, Memory>
+        requires { KeepsSome self }
+        ensures written { IfOk result (λ count. (cut : Blocks) (entries : List Entry) (bytes : List ℕ) → Keeps self cut entries bytes
+            → (out.new.items ≡ out.old.items ++ end_part cut.ended (sizes_of cut.ended entries)) × (count ≡ length entries)) }
+        ensures err { OnErr result ((rest : List ℕ) × (out.new.items ≡ out.old.items ++ rest)) }
+    {
         let index = self.index.finish()?;
         let sizes = Sizes {
             data_size: self.data_size,
@@ -208,18 +213,59 @@ impl BbtWriter {
     }
 
     /// The data block has an entry, and so many bytes that it is ended before the next one.
-    fn is_full(&self) -> bool {
+    fn is_full(&self) -> bool
+        requires { KeepsSome self.now }
+        ensures { (cut : Blocks) (entries : List Entry) (bytes : List ℕ) → Keeps self.now cut entries bytes
+            → result ≡ is_full self.now.options.block_size cut.current }
+    {
         if self.rows == 0 {
             return false;
         }
         self.block.size_now() >= self.options.block_size as usize
     }
 
+    /// Ends the data block, if it is full.
+    ///
+    /// RocksDB: `FlushBlockBySizePolicy::Update` in table/block_based/flush_block_policy.cc.
+    fn make_room(&mut self, out: &mut Vec<u8>) -> Result<(), Memory>
+        requires { KeepsSome self.old }
+        ensures ok { OnOk result ((cut : Blocks) (entries : List Entry) (bytes : List ℕ) → Keeps self.old cut entries bytes
+            → (piece : List ℕ) × (out.new.items ≡ out.old.items ++ piece)
+            × Keeps self.new (with_room self.old.options.block_size cut) entries (bytes ++ piece)) }
+        ensures grows { (rest : List ℕ) × (out.new.items ≡ out.old.items ++ rest) }
+        ensures same { (self.new.options ≡ self.old.options) × (self.new.key ≡ self.old.key) }
+    {
+        match self.is_full() {
+            true => self.end_block(out),
+            false => Ok(()),
+        }
+    }
+
+    /// Ends the data block, if it has an entry.
+    fn end_last(&mut self, out: &mut Vec<u8>) -> Result<(), Memory>
+        requires { KeepsSome self.old }
+        ensures ok { OnOk result ((cut : Blocks) (entries : List Entry) (bytes : List ℕ) → Keeps self.old cut entries bytes
+            → (piece : List ℕ) × (out.new.items ≡ out.old.items ++ piece) × Keeps self.new (ended_last cut) entries (bytes ++ piece)) }
+        ensures grows { (rest : List ℕ) × (out.new.items ≡ out.old.items ++ rest) }
+    {
+        if self.rows == 0 {
+            return Ok(());
+        }
+        self.end_block(out)
+    }
+
     /// Ends the data block, which has an entry: appends it, and adds its row to the index. Its separator is its last key.
     ///
     /// RocksDB: `BlockBasedTableBuilder::Flush` in table/block_based/block_based_table_builder.cc, and
     /// `ShortenedIndexBuilder::AddIndexEntry` in table/block_based/index_builder.h, which shortens separators.
-    fn end_block(&mut self, out: &mut Vec<u8>) -> Result<(), Memory> {
+    fn end_block(&mut self, out: &mut Vec<u8>) -> Result<(), Memory>
+        requires writer { KeepsSome self.old }
+        requires some { 0 < self.old.rows }
+        ensures ok { OnOk result ((cut : Blocks) (entries : List Entry) (bytes : List ℕ) → Keeps self.old cut entries bytes
+            → (piece : List ℕ) × (out.new.items ≡ out.old.items ++ piece) × Keeps self.new (ended_now cut) entries (bytes ++ piece)) }
+        ensures grows { (rest : List ℕ) × (out.new.items ≡ out.old.items ++ rest) }
+        ensures same { (self.new.options ≡ self.old.options) × (self.new.key ≡ self.old.key) }
+    {
         let next = data_block(self.alloc)?;
         let block = mem::replace(&mut self.block, next).finish()?;
         let size = block.len() as u64;
@@ -258,9 +304,7 @@ impl BbtWriter {
         match fault_of(self.count, self.weight, &self.last, &self.key, e) {
             Some(fault) => Err(Refused::Cause(fault)),
             None => {
-                if self.is_full() {
-                    self.end_block(out)?;
-                }
+                self.make_room(out)?;
                 self.push(e)?;
                 Ok(())
             }
@@ -268,7 +312,15 @@ impl BbtWriter {
     }
 
     /// Adds the row of an entry that isn't refused, whose internal key was made, to a data block that isn't full.
-    fn push(&mut self, e: &EntryView<'_>) -> Result<(), Memory> {
+    fn push(&mut self, e: &EntryView<'_>) -> Result<(), Memory>
+        requires key { self.old.key.items ≡ key_of (entry_of e.now) }
+        requires writer { (cut : Blocks) × (entries : List Entry) × (bytes : List ℕ) × Keeps self.old cut entries bytes
+            × Fits (entries ++ entry_of e.now ∷ []) }
+        ensures ok { OnOk result ((cut : Blocks) (entries : List Entry) (bytes : List ℕ) → Keeps self.old cut entries bytes
+            → Fits (entries ++ entry_of e.now ∷ [])
+            → Keeps self.new (with_entry cut (entry_of e.now)) (entries ++ entry_of e.now ∷ []) bytes) }
+        ensures options { self.new.options ≡ self.old.options }
+    {
         self.block.add(&self.key, e.value, &[])?;
         self.keys += self.key.len() as u64;
         mem::swap(&mut self.last, &mut self.key);

@@ -1,9 +1,12 @@
 //! The properties that are written: what a file says of itself.
-ghost use Rattle.std.specs.Prelude.{◌≡◌, IfOk};
+ghost use Rattle.std.specs.Prelude.{◌≡◌, IfOk, OnOk, List, [], ◌∷◌, ◌++◌};
+ghost use Rattle.sst_block.specs.Block.{Row};
+ghost use Rattle.sst_meta.specs.Builder.{Holds};
+ghost use Rattle.sst_num.specs.Spelling.{varint};
+ghost use Rattle.sst_cli.specs.NextProperty.{IsNextProperty, kind_properties};
 ghost use Rattle.sst_cli.specs.Written as written;
 
-use sst_meta::PropsBuilder;
-use sst_meta::names;
+use sst_meta::{PropsBuilder, names};
 use sst_num::{Bytes, Memory, put_fixed32, put_varint64};
 use std::alloc::Global;
 
@@ -32,15 +35,22 @@ pub struct Sizes {
     pub values: u64,
 }
 
-/// Sets a property whose value is a varint.
-fn set_number(alloc: Global, props: &mut PropsBuilder, name: &[u8], n: u64) -> Result<(), Memory> {
+/// Sets the next property, whose value is a varint.
+fn set_number(alloc: Global, props: &mut PropsBuilder, name: &[u8], n: u64) -> Result<(), Memory>
+    requires { (pairs : List Row) × Holds props.old pairs × IsNextProperty pairs (written.property name.now (varint n)) }
+    ensures { OnOk result ((pairs : List Row) → Holds props.old pairs
+        → Holds props.new (pairs ++ written.property name.now (varint n) ∷ [])) }
+{
     let mut value = Vec::new(alloc);
     put_varint64(&mut value, n)?;
     props.set(name, &value)
 }
 
 /// Sets the properties of the index type and the order of user keys.
-fn set_kind(alloc: Global, props: &mut PropsBuilder) -> Result<(), Memory> {
+fn set_kind(alloc: Global, props: &mut PropsBuilder) -> Result<(), Memory>
+    requires { Holds props.old [] }
+    ensures { OnOk result (Holds props.new kind_properties) }
+{
     let mut value = Vec::new(alloc);
     put_fixed32(&mut value, BINARY_SEARCH)?;
     props.set(names::INDEX_TYPE, &value)?;

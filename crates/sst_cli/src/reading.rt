@@ -95,6 +95,7 @@ fn add_entry(
         → reading.read_line entries line ≡ reading.by_entry entries (Some entry.now)
         → IsRefused (reading.read_line entries line) number refusal }
     ensures failed { result ≢ Err (InputStop.Device DevStop.Failed) }
+    ensures options { writer.new.options ≡ writer.old.options }
 {
     let view = EntryView {
         user: entry.user.as_slice(),
@@ -125,6 +126,7 @@ pub fn add_line(
         → (entries : List Entry) (bytes : List ℕ) → After writer.old entries bytes
         → IsRefused (reading.read_line entries line.now) number refusal }
     ensures failed { result ≢ Err (InputStop.Device DevStop.Failed) }
+    ensures options { writer.new.options ≡ writer.old.options }
 {
     match entry_of_line(alloc, line)? {
         None => Err(refused(number, Reason::Line)),
@@ -148,6 +150,7 @@ pub fn add_lines<I: Intake>(
         → (text : List ℕ) → I.left input.old ≡ Some text → reading.read_input text ≡ Err refusal }
     ensures failed { result ≡ Err (InputStop.Device DevStop.Failed) → Rose (I.faults input.old) (I.faults input.new) }
     ensures counts { I.faults input.old ≤ I.faults input.new }
+    ensures options { writer.new.options ≡ writer.old.options }
 {
     let mut lines = LineReader::new(alloc);
     loop {

@@ -75,7 +75,7 @@ fn front(value: &[u8], length: usize) -> &[u8] {
 fn a_list_as_heavy_as_it_may_be(rt: HostRuntime) -> Result<(), Fail> {
     let value = value_of(rt.alloc(), LENGTH)?;
     let mut file = Vec::new(rt.alloc());
-    let mut writer = BbtWriter::new(rt.alloc())?;
+    let mut writer = BbtWriter::new(rt.alloc(), OPTIONS)?;
     add_many(&mut writer, &value, &mut file)?;
     let heavy = Err(Refused::Cause(WriteFault::Heavy));
     let longer = front(&value, LAST_LENGTH + 1);

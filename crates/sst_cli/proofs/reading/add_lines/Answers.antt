@@ -1,4 +1,4 @@
-use Rattle.std.proofs.Common.{ℕ, List, [], ◌∷◌, ◌++◌, Err, sym, ap, subst, arith}
+use Rattle.std.proofs.Common.{ℕ, List, [], ◌∷◌, ◌++◌, Err, sym, ap, ◌∙◌, subst, arith}
 use Rattle.std.specs.Io.KnownBytes.{prepend_known}
 use Rattle.std.proofs.lemmas.Result.{err_from_is_err_and}
 use Rattle.sst_cli.specs.declared.reading.InputStop.TheVariants as stop
@@ -66,4 +66,5 @@ loop-lines-preserved g c =
       after = subst (λ (b : List ℕ). After c.add_line.new.writer (kept.entries ++ added.entry ∷ []) b) (sym added.put) added.after;
       said = rw c.pass.ensures more;
       counts = omega (arith, kept.counts, c.next_line.ensures.counts);
+      options = c.add_line.ensures.options ∙ kept.options;
     }

@@ -2,7 +2,7 @@ use Rattle.std.proofs.Common.{length, Ok, Err, ap, inr}
 use Rattle.sst_cli.specs.Run.{text_for, done_text}
 use Rattle.sst_cli.specs.Refusals.{refusal_text}
 use Rattle.sst_cli.specs.Reading.{read_input}
-use Rattle.sst_cli.proofs.PrintedTexts.{some_printed, none_printed, text_that_says, some_text, same_entries, same_refusal, not_both, done_printed, done_cause, refusal_printed}
+use Rattle.sst_cli.proofs.PrintedTexts.{some_printed, none_printed, text_that_says, some_text, same_entries, same_refusal, not_both, done_printed, device_printed, refusal_printed}
 use Rattle.sst_cli.proofs.write_command.write.Goals as goal
 
 pub returns-in-Ok-clause-printed : goal.returns-in-Ok-clause-printed
@@ -32,6 +32,10 @@ returns-in-Ok-clause-written g c = λ text entries told reads.
     let same = same_entries (read_input text) made.entries entries (made.said text told) reads in
     done_printed c.print_done.result c.in-Ok.count (record { name = c.args.line.name.now; options = c.args.line.options }) made.entries entries (g.F.Folder.held c.args.files.now) (g.F.Folder.held c.produce.new.files) (g.I.Intake.left c.produce.new.input) (g.O.Sink.written c.args.out.now) (g.O.Sink.written c.print_done.new.out) (g.O.Sink.faults c.args.out.now) (g.O.Sink.faults c.print_done.new.out) c.print_done.ensures made.counted same made.file (made.read text told)
 
+pub returns-in-Ok-clause-device : goal.returns-in-Ok-clause-device
+returns-in-Ok-clause-device g c = λ fault.
+    inr (inr (device_printed c.print_done.result _ (g.O.Sink.written c.args.out.now) (g.O.Sink.written c.print_done.new.out) (g.O.Sink.faults c.args.out.now) (g.O.Sink.faults c.print_done.new.out) c.print_done.ensures fault))
+
 pub returns-in-Ok-clause-refused : goal.returns-in-Ok-clause-refused
 returns-in-Ok-clause-refused g c = λ text refusal told reads.
     let made = c.in-Ok.ensures.ok in
@@ -49,7 +53,3 @@ returns-in-Err-Refused-clause-refused g c = λ text refusal told reads.
     let said = c.produce.ensures.refused some (rw c.in-Err-Refused.field-0-is at c.in-Err-Refused.is) in
     let same = same_refusal (read_input text) some refusal (said text told) reads in
     refusal_printed c.print_refusal.result some refusal (g.O.Sink.written c.args.out.now) (g.O.Sink.written c.print_refusal.new.out) (g.O.Sink.faults c.args.out.now) (g.O.Sink.faults c.print_refusal.new.out) c.print_refusal.ensures same
-
-pub returns-in-Ok-clause-device : goal.returns-in-Ok-clause-device
-returns-in-Ok-clause-device g c = λ failed.
-    inr (inr (done_cause c.print_done.result c.in-Ok.count (g.O.Sink.written c.args.out.now) (g.O.Sink.written c.print_done.new.out) (g.O.Sink.faults c.args.out.now) (g.O.Sink.faults c.print_done.new.out) c.print_done.ensures failed))

@@ -1,44 +1,40 @@
-use Rattle.std.proofs.Common.{◌∙◌, ap, refl, sym, [], ◌∷◌, length-append, arith}
-use Rattle.sst_key.specs.declared.entries.Entry.{Entry}
-use Rattle.sst_key.specs.Entry.{entry_of}
-use Rattle.sst_block.specs.declared.row_form.RowForm.TheVariants.{Entries}
-use Rattle.sst_bbt_spec.specs.Rows.{rows_of}
-use Rattle.sst_cli.proofs.Rows.{weight-append}
-use Rattle.sst_cli.proofs.Added.{data_takes, data-more, last-more, has_room}
+use Rattle.std.proofs.Common.{◌≡◌, ◌+◌, length, refl, ap, ◌∙◌, arith}
+use Rattle.sst_key.specs.Entry.{entry_of, key_of}
+use Rattle.sst_cli.proofs.Entering.{block_takes, entry-space, entered_keeps}
 use Rattle.sst_cli.proofs.bbt_writer.BbtWriter.push.Goals as goal
 
 pub add-requires : goal.add-requires
 add-requires c =
-    let w = c.requires.writer in
-    data_takes c.args.self.now.block w.0 (entry_of c.args.e.now) c.deref.result.now _ w.2.block (c.requires.fits w.0 w.1 w.2) (c.deref.ensures.value ∙ c.requires.key) refl
+    let k = c.requires.writer in
+    block_takes c.args.self.now k.0 k.1 k.2 (entry_of c.args.e.now) _ _ k.3 k.4 (c.deref.ensures.value ∙ c.requires.key) refl
 
 pub overflow_add-self : goal.overflow_add-self
 overflow_add-self c =
-    let w = c.requires.writer in
-    let room = has_room w.0 (entry_of c.args.e.now) (c.requires.fits w.0 w.1 w.2) in
-    omega (arith, room.count, w.2.count)
+    let k = c.requires.writer in
+    let space = (entry-space c.args.self.now k.0 k.1 k.2 (entry_of c.args.e.now) k.3 k.4).keys in
+    omega (arith, c.len.ensures, ap length c.requires.key)
+
+pub overflow_add-self-2 : goal.overflow_add-self-2
+overflow_add-self-2 c =
+    let k = c.requires.writer in
+    let space = (entry-space c.args.self.now k.0 k.1 k.2 (entry_of c.args.e.now) k.3 k.4).rows in
+    omega arith
 
 pub overflow_add-self-3 : goal.overflow_add-self-3
 overflow_add-self-3 c =
-    let w = c.requires.writer in
-    let room = has_room w.0 (entry_of c.args.e.now) (c.requires.fits w.0 w.1 w.2) in
-    omega (arith, room.weighs)
+    let k = c.requires.writer in
+    let space = (entry-space c.args.self.now k.0 k.1 k.2 (entry_of c.args.e.now) k.3 k.4).count in
+    omega arith
 
 pub overflow_add-self-4 : goal.overflow_add-self-4
 overflow_add-self-4 c =
-    let w = c.requires.writer in
-    let room = has_room w.0 (entry_of c.args.e.now) (c.requires.fits w.0 w.1 w.2) in
-    omega (arith, room.weighs, w.2.weighs)
+    let k = c.requires.writer in
+    let space = (entry-space c.args.self.now k.0 k.1 k.2 (entry_of c.args.e.now) k.3 k.4).values in
+    omega arith
 
-pub returns : goal.returns
-returns c = λ entries bytes a.
-    let e : Entry = entry_of c.args.e.now in
-    record {
-      sound = a.sound;
-      block = data-more c.add.new.self entries e c.deref.result.now (c.deref.ensures.value ∙ c.requires.key) (c.in_ok-add.ensures.ok Entries 16 (rows_of entries) a.block);
-      last = ap (λ v. v.items) c.swap.ensures.x_after ∙ c.requires.key ∙ sym (last-more entries e);
-      count = omega (arith, a.count, length-append entries (e ∷ []));
-      weighs = omega (arith, a.weighs, weight-append entries e);
-      fits = c.requires.fits entries bytes a;
-      none = a.none;
-    }
+pub returns-clause-ok : goal.returns-clause-ok
+returns-clause-ok c = λ cut entries bytes kept fits.
+    let e = entry_of c.args.e.now in
+    let keys : c.args.self.now.keys + c.len.result ≡ c.args.self.now.keys + length (key_of e) = omega (arith, c.len.ensures, ap length c.requires.key) in
+    entered_keeps c.args.self.now cut entries bytes e c.deref.result.now _ kept fits (c.deref.ensures.value ∙ c.requires.key) c.in_ok-add.ensures.ok
+    refl refl refl refl refl (ap (λ v. v.items) c.swap.ensures.x_after ∙ c.requires.key) refl keys refl refl
