@@ -20,8 +20,8 @@ cut_of-more limit entries e = cut_from-more limit (record { ended = []; current 
 added-steps : (limit : ℕ) (cut : Blocks) (e : Entry) → add_entry limit cut e ≡ with_entry (with_room limit cut) e
 added-steps limit cut e =
     elim (is_full limit cut.current) as (λ t. ◌≡◌ {A = Blocks}
-      (if t then record { ended = cut.ended ++ cut.current ∷ []; current = e ∷ [] } else record { ended = cut.ended; current = cut.current ++ e ∷ [] })
-      (with_entry (if t then ended_now cut else cut) e)) [ true ↦ refl | false ↦ refl ]
+    (if t then record { ended = cut.ended ++ cut.current ∷ []; current = e ∷ [] } else record { ended = cut.ended; current = cut.current ++ e ∷ [] })
+    (with_entry (if t then ended_now cut else cut) e)) [ true ↦ refl | false ↦ refl ]
 
 pub cut_of-steps : (limit : ℕ) (entries : List Entry) (e : Entry) → cut_of limit (entries ++ e ∷ []) ≡ with_entry (with_room limit (cut_of limit entries)) e
 cut_of-steps limit entries e = cut_of-more limit entries e ∙ added-steps limit (cut_of limit entries) e

@@ -20,7 +20,7 @@ use Rattle.sst_cli.specs.Written.{IsInLimits, Fits, stored_length, data_part, in
 use Rattle.sst_cli.proofs.FullBlocks.{HaveEntries}
 use Rattle.sst_cli.proofs.ListParts.{last_entry, last_key-entry, last_entry-limits, last-before, keys-less, fits-front, fits-back}
 use Rattle.sst_cli.proofs.Rows.{rows_of-forms, rows_of-ordered}
-use Rattle.sst_cli.proofs.IndexStands.{length-frame, length-data_part, data_block-short}
+use Rattle.sst_cli.proofs.IndexRows.{length-frame, length-data_part, data_block-short}
 use Rattle.sst_cli.proofs.FileParts.{framed-at}
 
 -- a data block with its separator, which is its last key

@@ -19,7 +19,7 @@ use Rattle.sst_cli.specs.Keeps.{HasEntry, Keeps, ended_now}
 use Rattle.sst_cli.specs.Written.{Fits, IsInLimits, data_part, index_row, index_rows}
 use Rattle.sst_cli.proofs.Rows.{last_key-of_some}
 use Rattle.sst_cli.proofs.CutSteps.{AreOf, of-ended, entries_in-more}
-use Rattle.sst_cli.proofs.IndexRows.{limits-back, index-ordered, index-room, index_rows-more, data_part-more, data_part-le, data-le, blocks-few, weight-both, length-framed}
+use Rattle.sst_cli.proofs.IndexRoom.{limits-back, index-ordered, index-room, index_rows-more, data_part-more, data_part-le, data-le, blocks-few, weight-both, length-framed}
 
 -- the last key of a list is that of its end
 last-of_back : (before : List ℕ) (front back : List Entry) → 0 < length back → last_key before (rows_of (front ++ back)) ≡ last_key [] (rows_of back)

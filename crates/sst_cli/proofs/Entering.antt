@@ -16,7 +16,7 @@ use Rattle.sst_cli.specs.Written.{Fits, index_rows, key_bytes, value_bytes}
 use Rattle.sst_cli.proofs.Rows.{length-key_of, weight-append}
 use Rattle.sst_cli.proofs.Added.{data_takes, data-more, last-more, has_room}
 use Rattle.sst_cli.proofs.CutSteps.{of-entry}
-use Rattle.sst_cli.proofs.IndexRows.{ordered-back, limits-back, weight-both}
+use Rattle.sst_cli.proofs.IndexRoom.{ordered-back, limits-back, weight-both}
 use Rattle.sst_cli.proofs.Ending.{of-kept}
 
 -- the back of a list that is written is such a list

@@ -2,7 +2,7 @@
 use Rattle.std.proofs.Common.{◌≡◌, ℕ, ◌+◌, ◌^◌, ◌≤◌, List, ◌++◌, length, length-append, refl, sym, ◌∙◌, subst, append_assoc, arith}
 use Rattle.sst_device.specs.Framed.{Framed, frame_of}
 use Rattle.sst_device.proofs.Frames.{frame-framed}
-use Rattle.sst_cli.proofs.IndexStands.{length-frame}
+use Rattle.sst_cli.proofs.IndexRows.{length-frame}
 
 -- a stored block stands in a file behind what is before it
 pub framed-at : (file front block rest : List ℕ) (at end : ℕ) → file ≡ front ++ (frame_of block ++ rest) → at ≡ length front → length block ≤ 2 ^ 29

@@ -14,7 +14,7 @@ use Rattle.sst_cli.specs.FileEnd.{end_of}
 use Rattle.sst_cli.specs.Keeps.{Keeps, ended_last, with_room, with_entry}
 use Rattle.sst_cli.specs.Written.{Fits, Written, data_part, index_rows, index_block, sizes_of, end_part, file_of_blocks, table_of}
 use Rattle.sst_cli.proofs.CutSteps.{AreOf, cut_of-of, cut_of-steps, blocks-last}
-use Rattle.sst_cli.proofs.IndexRows.{index-room, data_part-le, weight-both}
+use Rattle.sst_cli.proofs.IndexRoom.{index-room, data_part-le, weight-both}
 use Rattle.sst_cli.proofs.Rows.{Fits-nil}
 use Rattle.sst_cli.proofs.Stands.{stands}
 use Rattle.sst_key.specs.Entry.{weight}

@@ -1,140 +1,130 @@
--- The index rows of blocks: they are in order and take no more than the list weighs.
-use Rattle.std.proofs.Common.{◌≡◌, ℕ, ◌+◌, ◌*◌, ◌^◌, ◌<◌, ◌≤◌, false, List, [], ◌∷◌, ◌++◌, length, length-append, All, refl, sym, ap, ◌∙◌, subst, sum_by, append_assoc, arith}
-use Rattle.std.proofs.lemmas.Grind.{flat_map-append}
-use Rattle.std.proofs.lemmas.List.{append-nil}
-use Rattle.std.proofs.lemmas.List.Elements.{All-head, All-tail}
-use Rattle.std.proofs.lemmas.List.Sums.{sum_by-cons, sum_by-append}
+-- The index of some data blocks: its rows may stand in a block, which stands for them, and it isn't too long.
+use Rattle.std.proofs.Common.{◌≡◌, ℕ, ◌+◌, ◌*◌, ◌^◌, ◌<◌, ◌≤◌, false, List, [], ◌∷◌, ◌++◌, length, length-append, All, refl, ap, ◌∙◌, sum_by, arith}
+use Rattle.std.proofs.lemmas.List.Elements.{All-nil, All-cons}
+use Rattle.std.proofs.lemmas.List.Sums.{sum_by-append, sum_by-cons}
 use Rattle.std.specs.declared.cmp.Ordering.TheVariants.{Less}
-use Rattle.sst_num.specs.Spelling.{handle_spelling}
+use Rattle.sst_num.specs.declared.block_handle.Handle.{Handle}
 use Rattle.sst_key.specs.declared.entries.Entry.{Entry}
-use Rattle.sst_key.specs.Entry.{key_of, IsBefore, IsOrdered, entry_weight, weight}
+use Rattle.sst_key.specs.Entry.{key_of, entry_weight, weight}
 use Rattle.sst_key.specs.InternalKey.{internal_cmp}
-use Rattle.sst_key.proofs.TargetOrder.{IsBefore-trans}
 use Rattle.sst_block.specs.declared.row_form.RowForm.TheVariants.{Index}
-use Rattle.sst_block.specs.Block.{Row, AreOrdered}
+use Rattle.sst_block.specs.Block.{Block, IsRow, AreOrdered}
 use Rattle.sst_block.specs.Builder.{last_key, row_room}
+use Rattle.sst_block.proofs.BlockLaws.{block_of_is_block}
 use Rattle.sst_block.proofs.Size.{block_of-le}
 use Rattle.sst_device.specs.Framed.{frame_of, trailer_of}
+use Rattle.sst_bbt_spec.specs.Rows.{rows_of}
 use Rattle.sst_meta.proofs.Footers.{length-handle}
-use Rattle.sst_bbt_spec.specs.Rows.{row_of, rows_of}
 use Rattle.sst_cli.specs.Cut.{data_block, entries_in}
-use Rattle.sst_cli.specs.Keeps.{HasEntry}
-use Rattle.sst_cli.specs.Written.{IsInLimits, data_part, index_row, index_rows, stored_length}
-use Rattle.sst_cli.proofs.Rows.{length-key_of, less-keys, rows_of-room}
+use Rattle.sst_cli.specs.Written.{Fits, stored_length, data_part, index_row, index_rows, index_block}
+use Rattle.sst_cli.proofs.FullBlocks.{HaveEntries}
+use Rattle.sst_cli.proofs.ListParts.{last_entry, last_key-entry, last_entry-limits, last_entry-weight, last-before, before-last, keys-less, fits-front, fits-back}
+use Rattle.sst_cli.proofs.Rows.{length-key_of, rows_of-room}
 
--- an entry before a list is before the last of it
-before-last : (x e : Entry) (rest more : List Entry) → IsBefore x e → IsOrdered (e ∷ (rest ++ more)) → IsInLimits x → All IsInLimits (e ∷ (rest ++ more))
-    → internal_cmp (key_of x) (last_key [] (rows_of (e ∷ rest))) ≡ Less
-before-last x e [] more before ordered here limits = less-keys x e here (All-head IsInLimits e more limits) before
-before-last x e (next ∷ rest) more before ordered here limits =
-    before-last x next rest more (IsBefore-trans x e next before ordered.0) ordered.1 here (All-tail IsInLimits e (next ∷ rest ++ more) limits)
-
--- the last of a block is before the last of the next
-block-before : (x : Entry) (rest : List Entry) (e : Entry) (next more : List Entry)
-    → IsOrdered (x ∷ (rest ++ (e ∷ (next ++ more)))) → All IsInLimits (x ∷ (rest ++ (e ∷ (next ++ more))))
-    → internal_cmp (last_key [] (rows_of (x ∷ rest))) (last_key [] (rows_of (e ∷ next))) ≡ Less
-block-before x [] e next more ordered limits =
-    before-last x e next more ordered.0 ordered.1 (All-head IsInLimits x (e ∷ (next ++ more)) limits) (All-tail IsInLimits x (e ∷ (next ++ more)) limits)
-block-before x (y ∷ rest) e next more ordered limits =
-    block-before y rest e next more ordered.1 (All-tail IsInLimits x (y ∷ (rest ++ (e ∷ (next ++ more)))) limits)
-
--- the back of an ordered list is ordered
-pub ordered-back : (front back : List Entry) → IsOrdered (front ++ back) → IsOrdered back
-ordered-back [] back ordered = ordered
-ordered-back (a ∷ []) [] ordered = tt
-ordered-back (a ∷ []) (b ∷ back) ordered = ordered.1
-ordered-back (a ∷ b ∷ rest) back ordered = ordered-back (b ∷ rest) back ordered.1
-
-pub limits-back : (front back : List Entry) → All IsInLimits (front ++ back) → All IsInLimits back
-limits-back [] back limits = limits
-limits-back (a ∷ rest) back limits = limits-back rest back (All-tail IsInLimits a (rest ++ back) limits)
-
--- the index rows of an ordered list are in order
-pub index-ordered : (at : ℕ) (blocks : List (List Entry)) → All HasEntry blocks → IsOrdered (entries_in blocks) → All IsInLimits (entries_in blocks)
-    → AreOrdered (Index false false) (index_rows at blocks)
-index-ordered at [] filled ordered limits = tt
-index-ordered at (block ∷ []) filled ordered limits = tt
-index-ordered at ([] ∷ next ∷ rest) filled ordered limits = let some = All-head HasEntry [] (next ∷ rest) filled in absurd (omega arith)
-index-ordered at ((x ∷ block) ∷ [] ∷ rest) filled ordered limits =
-    let some = All-head HasEntry [] rest (All-tail HasEntry (x ∷ block) ([] ∷ rest) filled) in absurd (omega arith)
-index-ordered at ((x ∷ block) ∷ (e ∷ next) ∷ rest) filled ordered limits =
-    let all = entries_in ((e ∷ next) ∷ rest) in
-    (
-      block-before x block e next (entries_in rest) ordered limits,
-      index-ordered (at + stored_length (data_block (x ∷ block))) ((e ∷ next) ∷ rest) (All-tail HasEntry (x ∷ block) ((e ∷ next) ∷ rest) filled)
-      (ordered-back (x ∷ block) all ordered) (limits-back (x ∷ block) all limits),
-    )
-
--- the last key of a block takes less than the block weighs
-last-weight : (before : List ℕ) (e : Entry) (rest : List Entry) → length (last_key before (rows_of (e ∷ rest))) + 56 ≤ weight (e ∷ rest)
-last-weight before e [] = omega (arith, length-key_of e, sum_by-cons entry_weight e [])
-last-weight before e (next ∷ rest) = omega (arith, last-weight (key_of e) next rest, sum_by-cons entry_weight e (next ∷ rest))
-
-row-weight : (at : ℕ) (block : List Entry) → 0 < length block → row_room (index_row at block) ≤ weight block
-row-weight at [] some = absurd (omega arith)
-row-weight at (e ∷ rest) some =
-    omega (arith, last-weight [] e rest, length-handle (record { offset = at; size = length (data_block (e ∷ rest)) }))
-
-pub weight-both : (front back : List Entry) → weight (front ++ back) ≡ weight front + weight back
-weight-both front back = sum_by-append entry_weight front back
-
--- the index rows take no more than their entries weigh
-pub index-room : (at : ℕ) (blocks : List (List Entry)) → All HasEntry blocks → sum_by row_room (index_rows at blocks) ≤ weight (entries_in blocks)
-index-room at [] filled = omega arith
-index-room at (block ∷ rest) filled =
-    let here = row-weight at block (All-head HasEntry block rest filled) in
-    let more = index-room (at + stored_length (data_block block)) rest (All-tail HasEntry block rest filled) in
-    omega (arith, here, more, weight-both block (entries_in rest), sum_by-cons row_room (index_row at block) (index_rows (at + stored_length (data_block block)) rest))
-
--- a trailer has five bytes
 length-trailer : (block : List ℕ) → length (trailer_of block) ≡ 5
 unfolding trailer_of
 length-trailer block = refl
 
-pub length-framed : (block : List ℕ) → length (frame_of block) ≡ length block + 5
-length-framed block = omega (arith, length-append block (trailer_of block), length-trailer block)
+-- a stored block is five bytes longer than the block
+pub length-frame : (block : List ℕ) → length (frame_of block) ≡ length block + 5
+length-frame block = omega (arith, length-append block (trailer_of block), length-trailer block)
 
--- one data block more
-pub data_part-more : (blocks : List (List Entry)) (block : List Entry) → data_part (blocks ++ block ∷ []) ≡ data_part blocks ++ frame_of (data_block block)
-data_part-more blocks block =
-    flat_map-append (λ (b : List Entry). frame_of (data_block b)) blocks (block ∷ []) ∙ ap (λ (l : List ℕ). data_part blocks ++ l) (append-nil (frame_of (data_block block)))
+-- a data block takes no more than its entries weigh, and eight bytes
+data_block-le : (entries : List Entry) → length (data_block entries) ≤ weight entries + 8
+data_block-le entries = omega (arith, block_of-le 16 (rows_of entries), rows_of-room entries)
 
--- and its index row
-index_rows-from : (at : ℕ) (blocks : List (List Entry)) (block : List Entry)
-    → index_rows at (blocks ++ block ∷ []) ≡ index_rows at blocks ++ index_row (at + length (data_part blocks)) block ∷ []
-index_rows-from at [] block = let none : at + 0 ≡ at = omega arith in rw none refl
-index_rows-from at (first ∷ rest) block =
-    let next = at + stored_length (data_block first) in
-    let size : next + length (data_part rest) ≡ at + length (data_part (first ∷ rest)) =
-    omega (arith, length-append (frame_of (data_block first)) (data_part rest), length-framed (data_block first)) in
-    ap (λ (rows : List Row). index_row at first ∷ rows) (index_rows-from next rest block ∙ ap (λ (k : ℕ). index_rows next rest ++ index_row k block ∷ []) size)
+pub data_block-short : (entries : List Entry) → Fits entries → length (data_block entries) ≤ 2 ^ 29
+data_block-short entries fits = omega (arith, data_block-le entries, fits.light)
 
-pub index_rows-more : (blocks : List (List Entry)) (block : List Entry)
-    → index_rows 0 (blocks ++ block ∷ []) ≡ index_rows 0 blocks ++ index_row (length (data_part blocks)) block ∷ []
-index_rows-more blocks block =
-    let none : 0 + length (data_part blocks) ≡ length (data_part blocks) = omega arith in
-    index_rows-from 0 blocks block ∙ ap (λ (k : ℕ). index_rows 0 blocks ++ index_row k block ∷ []) none
+weight-some : (e : Entry) (rest : List Entry) → 64 ≤ weight (e ∷ rest)
+weight-some e rest = omega (arith, sum_by-cons entry_weight e rest)
 
--- a data block takes no more than it weighs, and eight bytes
-pub data-le : (block : List Entry) → length (data_block block) ≤ weight block + 8
-data-le block = omega (arith, block_of-le 16 (rows_of block), rows_of-room block)
+pub length-data_part : (block : List Entry) (rest : List (List Entry)) → length (data_part (block ∷ rest)) ≡ stored_length (data_block block) + length (data_part rest)
+length-data_part block rest = length-append (frame_of (data_block block)) (data_part rest) ∙ ap (λ (n : ℕ). n + length (data_part rest)) (length-frame (data_block block))
 
-some-weight : (block : List Entry) → 0 < length block → 64 ≤ weight block
-some-weight [] some = absurd (omega arith)
-some-weight (e ∷ rest) some = omega (arith, sum_by-cons entry_weight e rest)
+-- the stored data blocks take at most twice what the entries weigh
+pub data_part-le : (blocks : List (List Entry)) → HaveEntries blocks → length (data_part blocks) ≤ 2 * weight (entries_in blocks)
+data_part-le [] some = omega arith
+data_part-le ([] ∷ rest) some = absurd (omega (arith, some.0))
+data_part-le ((e ∷ block) ∷ rest) some =
+    omega (
+      arith,
+      data_part-le rest some.1,
+      data_block-le (e ∷ block),
+      weight-some e block,
+      length-data_part (e ∷ block) rest,
+      sum_by-append entry_weight (e ∷ block) (entries_in rest),
+    )
 
--- the stored data blocks take at most twice what their entries weigh
-pub data_part-le : (blocks : List (List Entry)) → All HasEntry blocks → length (data_part blocks) ≤ 2 * weight (entries_in blocks)
-data_part-le [] filled = omega arith
-data_part-le (block ∷ rest) filled =
-    let more = data_part-le rest (All-tail HasEntry block rest filled) in
-    let here = some-weight block (All-head HasEntry block rest filled) in
-    omega (arith, more, here, data-le block, length-framed (data_block block), weight-both block (entries_in rest), length-append (frame_of (data_block block)) (data_part rest))
+-- where the data block stands
+abbrev handle_at : ℕ → List Entry → Handle
+handle_at at block = record { offset = at; size = length (data_block block) }
 
--- so many blocks weigh so much
-pub blocks-few : (blocks : List (List Entry)) → All HasEntry blocks → length blocks ≤ weight (entries_in blocks)
-blocks-few [] filled = omega arith
-blocks-few (block ∷ rest) filled =
-    let more = blocks-few rest (All-tail HasEntry block rest filled) in
-    let here = some-weight block (All-head HasEntry block rest filled) in
-    omega (arith, more, here, weight-both block (entries_in rest))
+row-form : (at : ℕ) (e : Entry) (block : List Entry) → Fits (e ∷ block) → at < 2 ^ 64 → IsRow (Index false false) (index_row at (e ∷ block))
+row-form at e block fits low =
+    let last = last_entry e block in
+    let long : length (last_key (key_of e) (rows_of block)) ≡ length last.user + 8 = ap length (last_key-entry e block) ∙ length-key_of last in
+    let limit = (last_entry-limits e block fits.limits).key in
+    let size : length (data_block (e ∷ block)) < 2 ^ 64 = omega (arith, data_block-short (e ∷ block) fits) in
+    (omega arith, (omega arith, (handle_at at (e ∷ block), low, size, refl)))
+
+index_rows-forms : (at : ℕ) (blocks : List (List Entry)) → HaveEntries blocks → Fits (entries_in blocks) → at + length (data_part blocks) < 2 ^ 64
+    → All (IsRow (Index false false)) (index_rows at blocks)
+index_rows-forms at [] some fits low = All-nil (IsRow (Index false false))
+index_rows-forms at ([] ∷ rest) some fits low = absurd (omega (arith, some.0))
+index_rows-forms at ((e ∷ block) ∷ rest) some fits low =
+    let long = length-data_part (e ∷ block) rest in
+    All-cons (IsRow (Index false false)) (index_row at (e ∷ block)) (index_rows (at + stored_length (data_block (e ∷ block))) rest)
+    (row-form at e block (fits-front (e ∷ block) (entries_in rest) fits) (omega arith))
+    (index_rows-forms (at + stored_length (data_block (e ∷ block))) rest some.1 (fits-back (e ∷ block) (entries_in rest) fits) (omega arith))
+
+-- the last keys of two neighbours are in order
+neighbours : (e : Entry) (block : List Entry) (f : Entry) (next more : List Entry) → Fits ((e ∷ block) ++ ((f ∷ next) ++ more))
+    → internal_cmp (last_key (key_of e) (rows_of block)) (last_key (key_of f) (rows_of next)) ≡ Less
+neighbours e block f next more fits =
+    let front = fits-front (e ∷ block) ((f ∷ next) ++ more) fits in
+    let back = fits-front (f ∷ next) more (fits-back (e ∷ block) ((f ∷ next) ++ more) fits) in
+    let before = before-last (last_entry e block) f next (last-before e block f (next ++ more) fits.ordered) back.ordered in
+    rw (last_key-entry e block, last_key-entry f next)
+    (keys-less (last_entry e block) (last_entry f next) (last_entry-limits e block front.limits) (last_entry-limits f next back.limits) before)
+
+index_rows-ordered : (at : ℕ) (blocks : List (List Entry)) → HaveEntries blocks → Fits (entries_in blocks) → AreOrdered (Index false false) (index_rows at blocks)
+index_rows-ordered at [] some fits = tt
+index_rows-ordered at (block ∷ []) some fits = tt
+index_rows-ordered at ([] ∷ next ∷ rest) some fits = absurd (omega (arith, some.0))
+index_rows-ordered at ((e ∷ block) ∷ [] ∷ rest) some fits = absurd (omega (arith, some.1.0))
+index_rows-ordered at ((e ∷ block) ∷ (f ∷ next) ∷ rest) some fits = (
+  neighbours e block f next (entries_in rest) fits,
+  index_rows-ordered (at + stored_length (data_block (e ∷ block))) ((f ∷ next) ∷ rest) some.1 (fits-back (e ∷ block) ((f ∷ next) ++ entries_in rest) fits),
+)
+
+row-room : (at : ℕ) (e : Entry) (block : List Entry) → row_room (index_row at (e ∷ block)) ≤ weight (e ∷ block)
+row-room at e block =
+    let last = last_entry e block in
+    let long : length (last_key (key_of e) (rows_of block)) ≡ length last.user + 8 = ap length (last_key-entry e block) ∙ length-key_of last in
+    omega (arith, last_entry-weight e block, length-handle (handle_at at (e ∷ block)))
+
+-- the index rows take no more than the entries weigh
+index_rows-room : (at : ℕ) (blocks : List (List Entry)) → HaveEntries blocks → sum_by row_room (index_rows at blocks) ≤ weight (entries_in blocks)
+index_rows-room at [] some = omega arith
+index_rows-room at ([] ∷ rest) some = absurd (omega (arith, some.0))
+index_rows-room at ((e ∷ block) ∷ rest) some =
+    let next = at + stored_length (data_block (e ∷ block)) in
+    omega (
+      arith,
+      row-room at e block,
+      index_rows-room next rest some.1,
+      sum_by-cons row_room (index_row at (e ∷ block)) (index_rows next rest),
+      sum_by-append entry_weight (e ∷ block) (entries_in rest),
+    )
+
+pub index_block-short : (blocks : List (List Entry)) → HaveEntries blocks → Fits (entries_in blocks) → length (index_block blocks) ≤ 2 ^ 28 + 8
+index_block-short blocks some fits = omega (arith, block_of-le 1 (index_rows 0 blocks), index_rows-room 0 blocks some, fits.light)
+
+-- the index block stands for the index rows
+pub index_block-is : (blocks : List (List Entry)) → HaveEntries blocks → Fits (entries_in blocks) → Block (Index false false) (index_block blocks) (index_rows 0 blocks)
+index_block-is blocks some fits =
+    block_of_is_block (Index false false) 1 (index_rows 0 blocks) (omega arith)
+    (index_rows-forms 0 blocks some fits (omega (arith, data_part-le blocks some, fits.light)))
+    (index_rows-ordered 0 blocks some fits)
+    (omega (arith, index_block-short blocks some fits))

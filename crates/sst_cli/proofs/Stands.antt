@@ -16,7 +16,7 @@ use Rattle.sst_cli.specs.Written.{Fits, Written, data_part, index_rows, index_bl
 use Rattle.sst_cli.specs.declared.bbt_options.BbtOptions.{BbtOptions}
 use Rattle.sst_cli.specs.declared.properties.Sizes.{Sizes}
 use Rattle.sst_cli.proofs.FullBlocks.{HaveEntries, blocks_for-entries, blocks_for-some}
-use Rattle.sst_cli.proofs.IndexStands.{data_part-le, index_block-short, index_block-is}
+use Rattle.sst_cli.proofs.IndexRows.{data_part-le, index_block-short, index_block-is}
 use Rattle.sst_cli.proofs.FileParts.{whole, props_place, names_place, end_place, before_footer, length-before_footer, parted-footer, index-framed, props-framed, names-framed}
 use Rattle.sst_cli.proofs.DataBlocks.{indexed, rows-lead, entries-run}
 use Rattle.sst_cli.proofs.PropertiesStand.{properties-le, properties-are, properties-good, names_rows, names-le, names-are, names-lead, names-no_tombstones}

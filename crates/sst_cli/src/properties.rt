@@ -6,8 +6,7 @@ ghost use Rattle.sst_num.specs.Spelling.{varint};
 ghost use Rattle.sst_cli.specs.NextProperty.{IsNextProperty, kind_properties};
 ghost use Rattle.sst_cli.specs.Written as written;
 
-use sst_meta::PropsBuilder;
-use sst_meta::names;
+use sst_meta::{PropsBuilder, names};
 use sst_num::{Bytes, Memory, put_fixed32, put_varint64};
 use std::alloc::Global;
 

@@ -67,12 +67,7 @@ fn put_footer(out: &mut Vec<u8>, metaindex: Handle, index: Handle) -> Result<(),
 ///
 /// Where memory runs out, `out` holds its old bytes followed by any.
 /// RocksDB: `BlockBasedTableBuilder::Finish` in table/block_based/block_based_table_builder.cc.
-pub fn put_end(
-    alloc: Global,
-    out: &mut Vec<u8>,
-    index: &[u8],
-    sizes: Sizes,
-) -> Result<(), Memory>
+pub fn put_end(alloc: Global, out: &mut Vec<u8>, index: &[u8], sizes: Sizes) -> Result<(), Memory>
     requires room { sizes.data_size + sizes.index_size < 2 ^ 60 }
     ensures ok { OnOk result (out.new.items ≡ out.old.items ++ end_of index.now sizes) }
     ensures err { OnErr result ((rest : List ℕ) × (out.new.items ≡ out.old.items ++ rest)) }

@@ -5,7 +5,6 @@ use Rattle.sst_meta.specs.Names as names
 use Rattle.sst_meta.specs.declared.name.Name.TheVariants as name
 use Rattle.sst_meta.specs.Builder.{Holds, CanSet}
 use Rattle.sst_cli.specs.Written.{property}
-use Rattle.sst_cli.specs.NextProperty.{kind_properties}
 use Rattle.sst_cli.specs.declared.properties.Sizes.{Sizes}
 use Rattle.sst_cli.proofs.PropertyRows.{takes_next, first, follows}
 use Rattle.sst_cli.proofs.properties.set_kind.Goals as goal

@@ -1,6 +1,5 @@
-use Rattle.std.proofs.Common.{List, ℕ, ◌≡◌, ◌++◌, length, refl, ap, ◌∙◌}
+use Rattle.std.proofs.Common.{length, refl, ap, ◌∙◌}
 use Rattle.std.proofs.lemmas.Result.{on_ok_weaker, on_err_weaker}
-use Rattle.sst_cli.specs.Written as written
 use Rattle.sst_cli.proofs.TableParts.{grown, end_joined, properties_at, metaindex_at}
 use Rattle.sst_cli.proofs.table_parts.put_end.Goals as goal
 
@@ -12,7 +11,7 @@ returns-clause-ok c =
     let at = metaindex_at sizes c.len.result c.len-2.result long (c.len-2.ensures ∙ ap length names) in
     on_ok_weaker c.put_footer.result
     (λ footer. end_joined c.args.out.now.items c.put_frame.new.out.items c.put_frame-2.new.out.items c.put_frame-3.new.out.items c.put_footer.new.out.items c.args.index.now c.as_slice.result.now c.as_slice-2.result.now sizes _ _
-      c.in_ok-put_frame.ensures.ok c.in_ok-put_frame-2.ensures.ok c.in_ok-put_frame-3.ensures.ok footer (c.as_slice.ensures ∙ c.in_ok-block.ensures) (c.as_slice-2.ensures ∙ names) at refl)
+    c.in_ok-put_frame.ensures.ok c.in_ok-put_frame-2.ensures.ok c.in_ok-put_frame-3.ensures.ok footer (c.as_slice.ensures ∙ c.in_ok-block.ensures) (c.as_slice-2.ensures ∙ names) at refl)
     c.put_footer.ensures.ok
 
 pub returns-clause-err : goal.returns-clause-err

@@ -1,12 +1,10 @@
-use Rattle.std.proofs.Common.{◌≡◌, ℕ, List, [], ◌++◌, length, refl, sym, ap, ◌∙◌, subst, arith}
+use Rattle.std.proofs.Common.{ℕ, List, [], ◌++◌, length, refl, sym, ap, ◌∙◌, subst, arith}
 use Rattle.sst_num.specs.Spelling.{handle_spelling}
 use Rattle.sst_block.specs.declared.row_form.RowForm.TheVariants.{Entries}
 use Rattle.sst_block.specs.declared.builder.BlockBuilder.{BlockBuilder}
 use Rattle.sst_block.specs.Builder.{Holds}
 use Rattle.sst_device.specs.Framed.{frame_of}
 use Rattle.sst_bbt_spec.specs.Rows.{rows_of}
-use Rattle.sst_cli.specs.Cut.{Blocks}
-use Rattle.sst_cli.specs.Keeps.{ended_now, Keeps}
 use Rattle.sst_cli.proofs.Ending.{index_takes, end-space, ended_keeps}
 use Rattle.sst_cli.proofs.bbt_writer.BbtWriter.end_block.Goals as goal
 
@@ -37,8 +35,7 @@ returns-clause-ok c = λ cut entries bytes kept.
     let value = c.deref-2.ensures.value ∙ c.in_ok-put_handle.ensures.ok ∙ ap (λ (l : List ℕ). l ++ handle_spelling (record { offset = w.data_size; size = c.len-size.result })) c.new-value.ensures.items in
     let block = c.in_ok-block.ensures.exact Entries 16 (rows_of cut.current) (subst (λ (b : BlockBuilder). Holds b Entries 16 (rows_of cut.current)) (sym c.replace.ensures.value) kept.block) in
     let next = subst (λ (b : BlockBuilder). Holds b Entries 16 []) (sym c.replace.ensures.after) c.in_ok-next.ensures in
-    let put = c.in_ok-put_frame.ensures.ok ∙ ap (λ (b : List ℕ). c.args.out.now.items ++ frame_of b) c.as_slice.ensures in
-    (
+    let put = c.in_ok-put_frame.ensures.ok ∙ ap (λ (b : List ℕ). c.args.out.now.items ++ frame_of b) c.as_slice.ensures in (
       frame_of c.in_ok-block.block,
       put,
       ended_keeps w cut entries bytes c.replace.new.dest c.add.new.self c.in_ok-block.block c.deref.result.now c.deref-2.result.now c.len-size.result kept c.requires.some next block c.len-size.ensures c.deref.ensures.value value c.in_ok-add.ensures.ok,

@@ -1,4 +1,4 @@
-use Rattle.std.proofs.Common.{◌≡◌, ℕ, List, ◌++◌, sym, ap, ◌∙◌, subst, arith}
+use Rattle.std.proofs.Common.{◌++◌, sym, subst, arith}
 use Rattle.std.proofs.lemmas.Result.{on_ok_weaker}
 use Rattle.sst_cli.specs.Cut.{Blocks}
 use Rattle.sst_cli.specs.Keeps.{Keeps}
@@ -10,7 +10,7 @@ pub returns-clause-ok : goal.returns-clause-ok
 returns-clause-ok c =
     on_ok_weaker c.end_block.result
     (λ ended cut entries bytes kept.
-      let put = ended cut entries bytes kept in
-      let some = kept-some c.args.self.now cut entries bytes kept (omega arith) in
-      (put.0, put.1, subst (λ (b : Blocks). Keeps c.end_block.new.self b entries (bytes ++ put.0)) (sym (last-some cut some)) put.2))
+    let put = ended cut entries bytes kept in
+    let some = kept-some c.args.self.now cut entries bytes kept (omega arith) in
+    (put.0, put.1, subst (λ (b : Blocks). Keeps c.end_block.new.self b entries (bytes ++ put.0)) (sym (last-some cut some)) put.2))
     c.end_block.ensures.ok

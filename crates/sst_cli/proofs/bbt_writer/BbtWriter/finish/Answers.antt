@@ -27,12 +27,12 @@ pub returns-clause-written : goal.returns-clause-written
 returns-clause-written c =
     IfOk-weaker c.put_rest.result _ _
     (λ count put entries bytes a.
-      let cut = cut_by c.args.self entries in
-      let last = c.in_ok-end_last.ensures.ok cut entries bytes (keeps-from_after c.args.self entries bytes a) in
-      let rest = put (ended_last cut) entries (bytes ++ last.0) last.2 in
-      let end = end_part (ended_last cut).ended (sizes_of (ended_last cut).ended entries) in
-      let all = rest.0 ∙ ap (λ (l : List ℕ). l ++ end) last.1 ∙ append_assoc c.args.out.now.items last.0 end in
-      (last.0 ++ end, all, finished c.args.self.options entries bytes last.0 a.fits last.2.appended, rest.1))
+    let cut = cut_by c.args.self entries in
+    let last = c.in_ok-end_last.ensures.ok cut entries bytes (keeps-from_after c.args.self entries bytes a) in
+    let rest = put (ended_last cut) entries (bytes ++ last.0) last.2 in
+    let end = end_part (ended_last cut).ended (sizes_of (ended_last cut).ended entries) in
+    let all = rest.0 ∙ ap (λ (l : List ℕ). l ++ end) last.1 ∙ append_assoc c.args.out.now.items last.0 end in
+    (last.0 ++ end, all, finished c.args.self.options entries bytes last.0 a.fits last.2.appended, rest.1))
     c.put_rest.ensures.written
 
 pub returns-clause-err : goal.returns-clause-err

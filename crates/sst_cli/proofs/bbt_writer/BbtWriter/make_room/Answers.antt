@@ -1,4 +1,4 @@
-use Rattle.std.proofs.Common.{◌≡◌, ℕ, List, ◌++◌, sym, ap, ◌∙◌, subst}
+use Rattle.std.proofs.Common.{◌++◌, sym, ◌∙◌, subst}
 use Rattle.std.proofs.lemmas.Result.{on_ok_weaker}
 use Rattle.sst_cli.specs.Cut.{Blocks}
 use Rattle.sst_cli.specs.Keeps.{Keeps}
@@ -10,7 +10,7 @@ returns-in-true-clause-ok c =
     let limit = c.args.self.now.options.block_size in
     on_ok_weaker c.end_block.result
     (λ ended cut entries bytes kept.
-      let put = ended cut entries bytes kept in
-      let full = sym (c.is_full.ensures cut entries bytes kept) ∙ c.in-true.is in
-      (put.0, put.1, subst (λ (b : Blocks). Keeps c.end_block.new.self b entries (bytes ++ put.0)) (sym (room-full limit cut full)) put.2))
+    let put = ended cut entries bytes kept in
+    let full = sym (c.is_full.ensures cut entries bytes kept) ∙ c.in-true.is in
+    (put.0, put.1, subst (λ (b : Blocks). Keeps c.end_block.new.self b entries (bytes ++ put.0)) (sym (room-full limit cut full)) put.2))
     c.end_block.ensures.ok

@@ -1,4 +1,4 @@
-use Rattle.std.proofs.Common.{◌≡◌, ℕ, ◌+◌, List, length, refl, sym, ap, ◌∙◌, arith}
+use Rattle.std.proofs.Common.{◌≡◌, ◌+◌, length, refl, ap, ◌∙◌, arith}
 use Rattle.sst_key.specs.Entry.{entry_of, key_of}
 use Rattle.sst_cli.proofs.Entering.{block_takes, entry-space, entered_keeps}
 use Rattle.sst_cli.proofs.bbt_writer.BbtWriter.push.Goals as goal

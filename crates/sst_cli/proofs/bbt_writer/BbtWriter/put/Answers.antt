@@ -1,4 +1,4 @@
-use Rattle.std.proofs.Common.{◌∙◌, ap, sym, refl, List, ℕ, ◌++◌, ◌∷◌, []}
+use Rattle.std.proofs.Common.{◌∙◌, ap, sym, refl, List, ℕ, ◌++◌}
 use Rattle.sst_key.specs.Entry.{entry_of, internal_key}
 use Rattle.sst_cli.specs.Keeps.{with_room}
 use Rattle.sst_cli.specs.After.{cut_by}

@@ -1,8 +1,7 @@
-use Rattle.std.proofs.Common.{◌≡◌, ℕ, false, List, ◌++◌, length, sym, ap, ◌∙◌, arith}
-use Rattle.std.proofs.lemmas.Result.{IfOk-weaker}
+use Rattle.std.proofs.Common.{false}
 use Rattle.sst_block.specs.declared.row_form.RowForm.TheVariants.{Index}
 use Rattle.sst_cli.specs.Written.{index_rows}
-use Rattle.sst_cli.proofs.Finishing.{rest-sizes, rest-room, rest-is}
+use Rattle.sst_cli.proofs.Finishing.{rest-room}
 use Rattle.sst_cli.proofs.bbt_writer.BbtWriter.put_rest.Goals as goal
 
 pub put_end-requires : goal.put_end-requires
