@@ -1,10 +1,10 @@
 -- How a list that is cut into blocks is cut with one entry more.
-use Rattle.std.proofs.Common.{◌≡◌, ℕ, ◌<◌, true, false, Bool, if◌then◌else◌, nat_lt, List, [], ◌∷◌, ◌++◌, length, length-append, All, refl, sym, ap, ◌∙◌, subst, append_assoc, arith}
+use Rattle.std.proofs.Common.{◌≡◌, ℕ, ◌<◌, true, false, if◌then◌else◌, nat_lt, List, [], ◌∷◌, ◌++◌, length, All, refl, sym, ap, ◌∙◌, subst, append_assoc, arith}
 use Rattle.std.proofs.lemmas.Bool.{lt-ltb}
 use Rattle.std.proofs.lemmas.List.{append-nil}
 use Rattle.std.proofs.lemmas.List.Elements.{All-nil, All-push}
 use Rattle.sst_key.specs.declared.entries.Entry.{Entry}
-use Rattle.sst_cli.specs.Cut.{Blocks, add_entry, cut_from, cut_of, is_full, entries_in, ended_all, blocks_for}
+use Rattle.sst_cli.specs.Cut.{Blocks, add_entry, cut_from, cut_of, is_full, entries_in, blocks_for}
 use Rattle.sst_cli.specs.Keeps.{HasEntry, ended_now, ended_last, with_room, with_entry}
 
 -- an entry more comes last

@@ -1,7 +1,6 @@
 -- The data block that isn't ended may be ended: its index row may come next, and what the writer then keeps.
-use Rattle.std.proofs.Common.{◌≡◌, ℕ, ◌+◌, ◌*◌, ◌^◌, ◌<◌, ◌≤◌, false, List, [], ◌∷◌, ◌++◌, length, length-append, All, refl, sym, ap, ◌∙◌, subst, sum_by, arith}
+use Rattle.std.proofs.Common.{◌≡◌, ℕ, ◌+◌, ◌^◌, ◌<◌, ◌≤◌, false, List, [], ◌∷◌, ◌++◌, length, length-append, All, refl, sym, ap, ◌∙◌, subst, sum_by, arith}
 use Rattle.std.proofs.lemmas.List.{append-nil}
-use Rattle.std.proofs.lemmas.List.Elements.{All-tail}
 use Rattle.sst_num.specs.Spelling.{handle_spelling}
 use Rattle.sst_key.specs.declared.entries.Entry.{Entry}
 use Rattle.sst_key.specs.Entry.{key_of, weight, IsOrdered}
@@ -15,10 +14,10 @@ use Rattle.sst_device.specs.Framed.{frame_of}
 use Rattle.sst_bbt_spec.specs.Rows.{rows_of}
 use Rattle.sst_cli.specs.declared.bbt_writer.BbtWriter.{BbtWriter}
 use Rattle.sst_cli.specs.Cut.{Blocks, data_block, entries_in}
-use Rattle.sst_cli.specs.Keeps.{HasEntry, Keeps, ended_now}
+use Rattle.sst_cli.specs.Keeps.{Keeps, ended_now}
 use Rattle.sst_cli.specs.Written.{Fits, IsInLimits, data_part, index_row, index_rows}
 use Rattle.sst_cli.proofs.Rows.{last_key-of_some}
-use Rattle.sst_cli.proofs.CutSteps.{AreOf, of-ended, entries_in-more}
+use Rattle.sst_cli.proofs.CutSteps.{AreOf, of-ended}
 use Rattle.sst_cli.proofs.IndexRoom.{limits-back, index-ordered, index-room, index_rows-more, data_part-more, data_part-le, data-le, blocks-few, weight-both, length-framed}
 
 -- the last key of a list is that of its end

@@ -1,5 +1,5 @@
 -- What a writer appends at the end is what stands behind the data blocks, and with it the file is the one of the list.
-use Rattle.std.proofs.Common.{◌≡◌, ℕ, ◌+◌, ◌^◌, ◌<◌, ◌≤◌, false, List, [], ◌∷◌, ◌++◌, length, length-append, refl, sym, ap, ◌∙◌, subst, sum_by, append_assoc, arith}
+use Rattle.std.proofs.Common.{◌≡◌, ℕ, ◌+◌, ◌^◌, ◌<◌, false, List, [], ◌∷◌, ◌++◌, length, refl, sym, ap, ◌∙◌, subst, append_assoc, arith}
 use Rattle.sst_key.specs.declared.entries.Entry.{Entry}
 use Rattle.sst_block.specs.declared.row_form.RowForm.TheVariants.{Entries, Index}
 use Rattle.sst_block.specs.Builder.{Holds}
@@ -9,11 +9,11 @@ use Rattle.sst_cli.specs.declared.bbt_writer.BbtWriter.{BbtWriter}
 use Rattle.sst_cli.specs.declared.bbt_options.BbtOptions.{BbtOptions}
 use Rattle.sst_cli.specs.declared.properties.Sizes.{Sizes}
 use Rattle.sst_cli.specs.After.{After, cut_by}
-use Rattle.sst_cli.specs.Cut.{Blocks, cut_of, entries_in, blocks_for}
+use Rattle.sst_cli.specs.Cut.{Blocks, cut_of, entries_in}
 use Rattle.sst_cli.specs.FileEnd.{end_of}
 use Rattle.sst_cli.specs.Keeps.{Keeps, ended_last, with_room, with_entry}
 use Rattle.sst_cli.specs.Written.{Fits, Written, data_part, index_rows, index_block, sizes_of, end_part, file_of_blocks, table_of}
-use Rattle.sst_cli.proofs.CutSteps.{AreOf, cut_of-of, cut_of-steps, blocks-last}
+use Rattle.sst_cli.proofs.CutSteps.{cut_of-of, cut_of-steps, blocks-last}
 use Rattle.sst_cli.proofs.IndexRoom.{index-room, data_part-le, weight-both}
 use Rattle.sst_cli.proofs.Rows.{Fits-nil}
 use Rattle.sst_cli.proofs.Stands.{stands}

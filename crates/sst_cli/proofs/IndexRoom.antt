@@ -1,11 +1,10 @@
 -- The index rows of blocks: they are in order and take no more than the list weighs.
-use Rattle.std.proofs.Common.{◌≡◌, ℕ, ◌+◌, ◌*◌, ◌^◌, ◌<◌, ◌≤◌, false, List, [], ◌∷◌, ◌++◌, length, length-append, All, refl, sym, ap, ◌∙◌, subst, sum_by, append_assoc, arith}
+use Rattle.std.proofs.Common.{◌≡◌, ℕ, ◌+◌, ◌*◌, ◌<◌, ◌≤◌, false, List, [], ◌∷◌, ◌++◌, length, length-append, All, refl, ap, ◌∙◌, sum_by, arith}
 use Rattle.std.proofs.lemmas.Grind.{flat_map-append}
 use Rattle.std.proofs.lemmas.List.{append-nil}
 use Rattle.std.proofs.lemmas.List.Elements.{All-head, All-tail}
 use Rattle.std.proofs.lemmas.List.Sums.{sum_by-cons, sum_by-append}
 use Rattle.std.specs.declared.cmp.Ordering.TheVariants.{Less}
-use Rattle.sst_num.specs.Spelling.{handle_spelling}
 use Rattle.sst_key.specs.declared.entries.Entry.{Entry}
 use Rattle.sst_key.specs.Entry.{key_of, IsBefore, IsOrdered, entry_weight, weight}
 use Rattle.sst_key.specs.InternalKey.{internal_cmp}
@@ -16,7 +15,7 @@ use Rattle.sst_block.specs.Builder.{last_key, row_room}
 use Rattle.sst_block.proofs.Size.{block_of-le}
 use Rattle.sst_device.specs.Framed.{frame_of, trailer_of}
 use Rattle.sst_meta.proofs.Footers.{length-handle}
-use Rattle.sst_bbt_spec.specs.Rows.{row_of, rows_of}
+use Rattle.sst_bbt_spec.specs.Rows.{rows_of}
 use Rattle.sst_cli.specs.Cut.{data_block, entries_in}
 use Rattle.sst_cli.specs.Keeps.{HasEntry}
 use Rattle.sst_cli.specs.Written.{IsInLimits, data_part, index_row, index_rows, stored_length}

@@ -1,12 +1,11 @@
 -- A builder takes the properties of a file one after another: their names are in order, and their block is short.
-use Rattle.std.proofs.Common.{◌≡◌, ℕ, suc, ◌+◌, ◌^◌, ◌<◌, ◌≤◌, List, [], ◌∷◌, ◌++◌, take, drop, length, refl, sym, ap, ◌∙◌, subst, sum_by, length-append, append_assoc, arith}
+use Rattle.std.proofs.Common.{◌≡◌, ℕ, suc, ◌≤◌, List, [], ◌∷◌, ◌++◌, take, drop, length, refl, sym, ap, ◌∙◌, subst, sum_by, append_assoc, arith}
 use Rattle.std.proofs.lemmas.List.Sums.{sum_by-append}
-use Rattle.sst_num.specs.Spelling.{varint, fixed}
+use Rattle.sst_num.specs.Spelling.{varint}
 use Rattle.sst_block.specs.declared.row_form.RowForm.{RowForm}
 use Rattle.sst_block.specs.declared.row_form.RowForm.TheVariants.{Names}
 use Rattle.sst_block.specs.Block.{Row, AreOrdered}
 use Rattle.sst_block.specs.Builder.{row_room}
-use Rattle.sst_block.specs.Chosen.{block_of}
 use Rattle.sst_block.proofs.Size.{length-varint, block_of-le}
 use Rattle.sst_meta.specs.declared.builder.PropsBuilder.{PropsBuilder}
 use Rattle.sst_meta.specs.Builder.{Holds, CanSet}

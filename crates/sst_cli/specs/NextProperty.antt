@@ -1,5 +1,5 @@
 -- The properties of a file, one by one in the order in which they are written.
-use Rattle.std.specs.Prelude.{◌≡◌, ℕ, List, [], ◌∷◌, ◌++◌}
+use Rattle.std.specs.Prelude.{◌≡◌, List, [], ◌∷◌, ◌++◌}
 use Rattle.sst_num.specs.Spelling.{fixed}
 use Rattle.sst_block.specs.Block.{Row}
 use Rattle.sst_meta.specs.Names as names

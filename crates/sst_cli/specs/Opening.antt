@@ -2,7 +2,7 @@
 -- order: what the file says of itself (`load_read`, sst_meta); the index; the data blocks, in the order of the index. Each
 -- block is framed before it is read.
 -- RocksDB: BlockBasedTable::Open in table/block_based/block_based_table_reader.cc.
-use Rattle.std.specs.Prelude.{ℕ, false, List, [], ◌∷◌, ◌++◌, Option, None, Some, Result, Ok, Err}
+use Rattle.std.specs.Prelude.{ℕ, false, List, [], ◌∷◌, Option, None, Some, Result, Ok, Err}
 use Rattle.sst_num.specs.Reading.{handle_at}
 use Rattle.sst_num.specs.declared.block_handle.Handle.{Handle}
 use Rattle.sst_block.specs.declared.row_form.RowForm.TheVariants.{Entries, Index}

@@ -1,4 +1,4 @@
-use Rattle.std.proofs.Common.{arith, length, ◌≤◌, ◌<◌, ◌+◌, ◌∙◌, subst, ap}
+use Rattle.std.proofs.Common.{arith, length, ◌∙◌, subst, ap}
 use Rattle.sst_bbt_spec.specs.Way.{seek_for_prev_tag}
 use Rattle.sst_cli.specs.TableBlocks.{Table, IsTable}
 use Rattle.sst_cli.proofs.WayOfBlocks.{prev-past}

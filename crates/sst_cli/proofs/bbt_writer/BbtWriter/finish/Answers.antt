@@ -1,6 +1,6 @@
-use Rattle.std.proofs.Common.{inl, inr, ◌∙◌, ap, sym, List, ℕ, ◌++◌, length, append_assoc}
+use Rattle.std.proofs.Common.{inl, inr, ◌∙◌, ap, List, ℕ, ◌++◌, append_assoc}
 use Rattle.std.proofs.lemmas.Result.{IfOk-weaker, on_err_weaker}
-use Rattle.sst_cli.specs.Keeps.{KeepsSome, ended_last}
+use Rattle.sst_cli.specs.Keeps.{ended_last}
 use Rattle.sst_cli.specs.After.{cut_by}
 use Rattle.sst_cli.specs.Written.{end_part, sizes_of}
 use Rattle.sst_cli.proofs.TableParts.{grown}
