@@ -14,7 +14,9 @@ const BLOCK: &[u8] = b"block=";
 ///
 /// RocksDB: `BlockBasedTableOptions::block_size` in include/rocksdb/table.h.
 const LEAST_BLOCK: u64 = 64;
+
 const MOST_BLOCK: u64 = 16_777_216;
+
 const DEFAULT_BLOCK: u32 = 4096;
 
 /// A `write`: the name of the file that it makes, and the options.
