@@ -4,8 +4,8 @@
 //! # The way of a command
 //!
 //! ```text
-//!               out_name
-//! words ------------------------> name of OUT ------------------- begin, add -------------> file
+//!               write_line
+//! words ------------------------> OUT, options ------------------ begin, add -------------> file
 //!                                                                                            ^
 //!               LineReader          entry_of_line          BbtWriter: add, finish            |
 //! input ----------------> lines ----------------> entries -----------------------> bytes ----+
@@ -17,7 +17,7 @@
 //!
 //!               calls_name
 //! words ------------------------> name of FILE                file
-//!                                                               |  read_footer, draw_framed, check_block
+//!                                                               |  load, draw_framed, check_block
 //!               LineReader          call_of_line                v
 //! input ----------------> lines ----------------> calls      entries, or the first thing that is wrong
 //!                           |                        |          |                        |
@@ -81,27 +81,28 @@
 //!   specs/EntryText.antt), OUT holds what is `Written` for it, `wrote N` is printed, and the input is read
 //!   to its end; but for a fault of the outside and for want of memory. The same holds of each text that says
 //!   a list (`read_input`, specs/Reading.antt).
-//! - On each file that stands for a list (`BlockBased`, specs/BlockBased.antt), each list of calls, given as its lines
+//! - On each file that stands for a list (`BlockBased`, sst_bbt_spec), each list of calls, given as its lines
 //!   (`calls_text`, specs/CallText.antt), is answered as the list answers (`answer_of`, sst_key); but for the same. On a
-//!   file that opens, but whose separator is before a key of its block, Get, Seek and SeekForPrev go by the index, as
-//!   RocksDB does (`way_answer`, specs/Way.antt). Where the separators separate, the two ways are one
-//!   ([`the_way_is_the_lists`], [`a_file_that_stands_is_separated`]).
-//! - On each other file the first thing that is wrong is printed (`open_read`, specs/Opening.antt), and the file shows it
+//!   file that opens, but whose separators don't separate, Get, Seek and SeekForPrev go by the index, as RocksDB does
+//!   (`way_answer`, sst_bbt_spec). Where the separators separate, the two ways are one (`the_way_is_the_lists` and
+//!   `a_file_that_stands_is_separated`, sst_bbt_spec).
+//! - On each other file the first thing that is wrong is printed (`blocks_read`, specs/Opening.antt), and the file shows it
 //!   (`Shows`, specs/Shows.antt).
 //! - For each other input the first refusal is printed, a line and a reason; of `calls` whatever the file is.
 //! - What is `Written` for a list stands for it ([`written_file_stands_for_its_list`]). An entry's line reads
 //!   back as the entry ([`an_entry_line_reads_back`]), a list's text as the list ([`a_list_reads_back`]), and the same of
 //!   calls ([`a_call_line_reads_back`], [`a_call_list_reads_back`]).
-//! - A file opens to a list exactly where it reads as its rows ([`a_file_opens_to_its_rows`]), stands for one
-//!   list at most ([`a_file_stands_for_one_list`]), and, if it is of bytes, shows a fault exactly where it opens
-//!   to none ([`a_file_that_opens_shows_no_fault`]).
+//! - The data blocks of a list end where they are full, and no sooner ([`a_list_is_cut_where_blocks_are_full`]).
+//! - A file opens to data blocks exactly where it reads as them ([`a_file_opens_to_its_blocks`]), and, if it is of bytes,
+//!   shows a fault exactly where it opens to none ([`a_file_that_opens_shows_no_fault`]). It stands for one list at most
+//!   (`a_file_stands_for_one_list`, sst_bbt_spec).
 //! - Device is answered only with a counted fault, or where the folder tells that FILE isn't there. No file but OUT
 //!   changes.
 //!
 //! # For now
 //!
-//! A part whose crate comes later stands here, and moves unchanged: the metaindex (`load`); the
-//! writer (`bbt_writer`, `table_parts`); and the reader (`bbt_reader`). The whole file is made in memory and then added to
+//! A part whose crate comes later stands here, and moves unchanged: the writer (`bbt_writer`, `properties`,
+//! `table_parts`), and the reader (`bbt_reader`). The whole file is made in memory and then added to
 //! OUT; a reader keeps all entries in memory.
 #![tactic(auto)]
 

@@ -56,12 +56,14 @@ const USAGE: &str = "usage\n";
 ///
 /// There are two commands, and neither OUT nor FILE is empty:
 ///
-/// - `write block OUT`, perhaps with the option `block=N`: the input is a list of entry lines; OUT is begun, and holds the block-based file of the list at
-///   the end. No line after the first that is refused is looked at.
+/// - `write block OUT`, perhaps with the option `block=N`: the input is a list of entry lines; OUT is begun, and holds the
+///   block-based file of the list at the end. A data block of N bytes or more, 4096 without the option, is ended before
+///   the next entry is added. No line after the first that is refused is looked at.
 /// - `calls FILE`: the input is a list of call lines; each is answered from the list that FILE stands for, in order, as
-///   from one position. The whole input is read and checked before FILE is opened. No file changes. Where a separator in
-///   the index of FILE is before a key of its block, FILE stands for no list; then Get, Seek and SeekForPrev go by the
-///   index, as RocksDB does, and may miss entries that First and Next show (`way_answer`, specs/Way.antt).
+///   from one position. The whole input is read and checked before FILE is opened. No file changes. Where the
+///   separators in the index of FILE don't separate its data blocks, FILE stands for no list; then Get, Seek and
+///   SeekForPrev go by the index, as RocksDB does, and may miss entries that First and Next show (`way_answer`,
+///   sst_bbt_spec).
 ///
 /// Lines of text are printed, each with LF at its end. The status that is answered stands for a number:
 ///
@@ -84,8 +86,8 @@ const USAGE: &str = "usage\n";
 /// before; `key-long`, a user key of more than 65,536 bytes; `value-long`, a value of more than 16,777,216 bytes;
 /// `heavy`, a list of more than 2^28, where each entry counts its key, its value and 64.
 ///
-/// FAULT is the first thing that is wrong with FILE, in this order: its length, its footer, the metaindex, the index, the
-/// data block. docs/USAGE.md lists them.
+/// FAULT is the first thing that is wrong with FILE, in this order: its length, its footer, the metaindex, the properties,
+/// a form that isn't read yet, the index, the data blocks in the order of the index. docs/USAGE.md lists them.
 ///
 /// The words, the texts and the limits are this project's own.
 pub fn run<F: Folder, I: Intake, O: Sink>(
