@@ -36,6 +36,7 @@
 //! - [`damaged_names_twice`]: files with two faults, one of them in the metaindex or the properties.
 //! - [`damaged_many`]: files of two data blocks with one that is at fault.
 //! - [`damaged_large`]: blocks and keys past their limits. These files take a gigabyte of memory.
+//! - [`long_file`]: a file past its limit, which is said and not made.
 #![tactic(auto)]
 
 #[cfg(test)]
@@ -66,6 +67,8 @@ mod damaged_properties;
 mod damaged_twice;
 #[cfg(test)]
 mod lists;
+#[cfg(test)]
+mod long_file;
 #[cfg(test)]
 mod many_blocks;
 #[cfg(test)]
