@@ -4,8 +4,9 @@
 #   bash bench/reads.sh [ROUNDS]        5 rounds where no number is given
 #
 # The file has 200,000 entries of 16-byte keys and 100-byte values, in data blocks of 4096 bytes. What is timed: opening it
-# and `first`; and the same with 100,000 Gets of keys of the file, in an order without pattern. In each round both programs
-# run, one after the other, and of each the least user and system time counts. What is printed are ratios.
+# and `first`, twenty times; and once the same with 100,000 Gets of keys of the file, in an order without pattern. In each
+# round both programs run, one after the other, and of each the least user and system time counts. What is printed are
+# ratios.
 #
 # What it needs beside `sst`: g++, RocksDB's headers and library (Debian: librocksdb-dev), GNU time, and 100 MB of room in
 # TMPDIR. Where one is missing it says so, and ends with status 0.
@@ -60,12 +61,23 @@ awk -v count="$count" -v gets="$gets" 'BEGIN {
     }
 }' >"$room/gets"
 
+# often TIMES CALLS ANSWERS COMMAND..: runs a command so many times on a list of calls.
+often() {
+    local times=$1 calls=$2 answers=$3
+    shift 3
+    for _ in $(seq "$times"); do "$@" <"$calls" >"$answers" || return 1; done
+}
+export -f often
+
 # timed NAME COMMAND..: runs a command on each list of calls, and adds lines of seconds to the results.
 timed() {
-    local name=$1 calls
+    local name=$1 calls times
     shift
     for calls in open gets; do
-        /usr/bin/time -o "$room/time" -f '%U %S' "$@" <"$room/$calls" >"$room/answers.$name.$calls" || die "$name failed"
+        times=1
+        [ "$calls" = gets ] || times=20
+        /usr/bin/time -o "$room/time" -f '%U %S' bash -c 'often "$@"' often \
+            "$times" "$room/$calls" "$room/answers.$name.$calls" "$@" || die "$name failed"
         printf '%s %s %s\n' "$name" "$calls" "$(tail -n 1 "$room/time")" >>"$room/results"
     done
 }
@@ -79,6 +91,6 @@ awk '{ print $4 }' "$room/answers.ours.gets" | cmp - "$room/answers.theirs.gets"
 
 awk '{ t = $3 + $4; if (!(($1, $2) in least) || t < least[$1, $2]) least[$1, $2] = t }
     END {
-        printf "open and first, ours to theirs: %.2f\n", least["ours", "open"] / least["theirs", "open"]
+        printf "open and first, ours to theirs: %.1f\n", least["ours", "open"] / least["theirs", "open"]
         printf "with 100,000 Gets, ours to theirs: %.2f\n", least["ours", "gets"] / least["theirs", "gets"]
     }' "$room/results"
