@@ -52,6 +52,7 @@ pub fn draw<F: Folder>(
     ensures drew_some { F.drawn files.new ≤ F.drawn files.old + len }
     ensures never_falls { F.drawn files.old ≤ F.drawn files.new }
     ensures counts { F.faults files.old ≤ F.faults files.new }
+    ensures hides_none { (result ≡ Err DevStop.Failed) ⊎ (F.faults files.new ≡ F.faults files.old) }
 {
     let mut bytes = Vec::new(alloc);
     if bytes.resize(len, 0).is_err() {
@@ -83,6 +84,7 @@ pub fn draw_framed<F: Folder>(
     ensures drew_some { F.drawn files.new ≤ F.drawn files.old + handle.size + 5 }
     ensures never_falls { F.drawn files.old ≤ F.drawn files.new }
     ensures counts { F.faults files.old ≤ F.faults files.new }
+    ensures hides_none { (result ≡ Err Stop.Device) ⊎ (F.faults files.new ≡ F.faults files.old) }
 {
     match early_fault(end, handle) {
         Some(fault) => Err(Stop::Damage(fault)),

@@ -51,7 +51,8 @@ pub trait Folder {
             ⊎ Rose (faults self.old) (faults self.new) }
         ensures same_files { held self.new ≡ held self.old }
         ensures same_drawn { drawn self.new ≡ drawn self.old }
-        ensures counts { faults self.old ≤ faults self.new };
+        ensures counts { faults self.old ≤ faults self.new }
+        ensures hides_none { (result ≡ Err DevStop.Failed) ⊎ (faults self.new ≡ faults self.old) };
 
     /// Fills the whole buffer with the bytes of the named file from `at` on. After an error the buffer holds
     /// anything.
@@ -65,7 +66,8 @@ pub trait Folder {
         ensures drew { OnOk result (drawn self.new ≡ counted (drawn self.old) (length buf.old)) }
         ensures drew_some { drawn self.new ≤ counted (drawn self.old) (length buf.old) }
         ensures never_falls { drawn self.old ≤ drawn self.new }
-        ensures counts { faults self.old ≤ faults self.new };
+        ensures counts { faults self.old ≤ faults self.new }
+        ensures hides_none { (result ≡ Err DevStop.Failed) ⊎ (faults self.new ≡ faults self.old) };
 
     /// Makes the named file empty, or makes it new. After an error the file is as it was or empty.
     fn begin(&mut self, name: &str) -> Result<(), DevStop>
@@ -74,7 +76,8 @@ pub trait Folder {
             ⊎ (held self.new ≡ put_file (held self.old) name.now [])) }
         ensures failed { result ≡ Err DevStop.Failed → Rose (faults self.old) (faults self.new) }
         ensures same_drawn { drawn self.new ≡ drawn self.old }
-        ensures counts { faults self.old ≤ faults self.new };
+        ensures counts { faults self.old ≤ faults self.new }
+        ensures hides_none { (result ≡ Err DevStop.Failed) ⊎ (faults self.new ≡ faults self.old) };
 
     /// Appends the piece to the named file. After an error a prefix of the piece stands there.
     fn add(&mut self, name: &str, piece: &[u8]) -> Result<(), DevStop>
@@ -85,7 +88,8 @@ pub trait Folder {
         ensures failed { result ≡ Err DevStop.Failed → IsTrue (misses (held self.old) name.now 0)
             ⊎ Rose (faults self.old) (faults self.new) }
         ensures same_drawn { drawn self.new ≡ drawn self.old }
-        ensures counts { faults self.old ≤ faults self.new };
+        ensures counts { faults self.old ≤ faults self.new }
+        ensures hides_none { (result ≡ Err DevStop.Failed) ⊎ (faults self.new ≡ faults self.old) };
 
     /// Writes the piece over the bytes of the named file from `at` on, which are there. After an error a prefix
     /// of the piece was written over.
@@ -97,5 +101,6 @@ pub trait Folder {
         ensures failed { result ≡ Err DevStop.Failed → IsTrue (misses (held self.old) name.now (at + length piece.now))
             ⊎ Rose (faults self.old) (faults self.new) }
         ensures same_drawn { drawn self.new ≡ drawn self.old }
-        ensures counts { faults self.old ≤ faults self.new };
+        ensures counts { faults self.old ≤ faults self.new }
+        ensures hides_none { (result ≡ Err DevStop.Failed) ⊎ (faults self.new ≡ faults self.old) };
 }

@@ -1,5 +1,5 @@
 //! Streams of bytes, in and out.
-ghost use Rattle.std.specs.Prelude.{◌≡◌, ℕ, ◌<◌, ◌≤◌, List, [], ◌++◌, length, take, Option, IfOk, IfSome, OnOk, OnErr};
+ghost use Rattle.std.specs.Prelude.{◌≡◌, ℕ, ◌<◌, ◌≤◌, ◌⊎◌, List, [], ◌++◌, length, take, Option, IfOk, IfSome, OnOk, OnErr};
 ghost use Rattle.std.specs.Io.KnownBytes.{prepend_known, append_known};
 ghost use Rattle.sst_device.specs.Faults.{Rose};
 
@@ -20,7 +20,8 @@ pub trait Intake {
         ensures moved { IfOk result (λ n. left self.old ≡ prepend_known (take n buf.new) (left self.new)) }
         ensures end { result ≡ Ok 0 → 0 < length buf.old → IfSome (left self.new) (λ bytes. bytes ≡ []) }
         ensures failed { OnErr result (Rose (faults self.old) (faults self.new)) }
-        ensures counts { faults self.old ≤ faults self.new };
+        ensures counts { faults self.old ≤ faults self.new }
+        ensures hides_none { OnOk result (faults self.new ≡ faults self.old) };
 }
 
 /// Bytes that go out, in pieces.
@@ -39,7 +40,8 @@ pub trait Sink {
         ensures err { OnErr result ((n : ℕ) × (written self.new ≡ append_known (written self.old) (take n piece.now))) }
         ensures none { result ≡ Ok 0 → 0 < length piece.now → Rose (faults self.old) (faults self.new) }
         ensures failed { result ≡ Err DevStop.Failed → Rose (faults self.old) (faults self.new) }
-        ensures counts { faults self.old ≤ faults self.new };
+        ensures counts { faults self.old ≤ faults self.new }
+        ensures hides_none { (result ≡ Err DevStop.Failed) ⊎ (result ≡ Ok 0) ⊎ (faults self.new ≡ faults self.old) };
 }
 
 /// Puts the whole piece, in as many calls of `put` as the sink needs; an empty piece makes no call.
@@ -52,6 +54,7 @@ pub fn put_all<O: Sink>(out: &mut O, piece: &[u8]) -> Result<(), DevStop>
         × (O.written out.new ≡ append_known (O.written out.old) (take n piece.now))) }
     ensures failed { result ≡ Err DevStop.Failed → Rose (O.faults out.old) (O.faults out.new) }
     ensures counts { O.faults out.old ≤ O.faults out.new }
+    ensures hides_none { (result ≡ Err DevStop.Failed) ⊎ (O.faults out.new ≡ O.faults out.old) }
 {
     let mut done = 0;
     while done < piece.len() {

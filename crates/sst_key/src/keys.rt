@@ -1,4 +1,5 @@
 ghost use Rattle.std.specs.Prelude.{◌≡◌, ℕ, ◌+◌, ◌<◌, ◌≤◌, ◌^◌, ◌++◌, ◌↔◌, List, length, OnOk, OnErr};
+ghost use Rattle.std.specs.Vec.{vec_capacity};
 ghost use Rattle.sst_key.specs.Entry as entries;
 ghost use Rattle.sst_key.specs.Entry.{internal_key, tag, key_of, IsBefore};
 ghost use Rattle.sst_key.specs.InternalKey.{internal_cmp};
@@ -33,6 +34,7 @@ pub fn pack(out: &mut Vec<u8>, user: &[u8], seq: u64, kind: Kind) -> Result<(), 
     requires { seq < 2 ^ 56 }
     ensures ok { OnOk result (out.new.items ≡ out.old.items ++ internal_key user.now seq kind) }
     ensures err { OnErr result ((rest : List ℕ) × (out.new.items ≡ out.old.items ++ rest)) }
+    ensures full { OnErr result (vec_capacity out.old < length out.old.items + length user.now + 8) }
 {
     out.extend_from_slice(user)?;
     put_fixed64(out, seq * 256 + kind_number(kind))

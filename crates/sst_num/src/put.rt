@@ -1,4 +1,5 @@
-ghost use Rattle.std.specs.Prelude.{◌≡◌, ℕ, ◌≤◌, ◌++◌, take, OnOk, OnErr};
+ghost use Rattle.std.specs.Prelude.{◌≡◌, ℕ, ◌+◌, ◌<◌, ◌≤◌, ◌++◌, length, take, OnOk, OnErr};
+ghost use Rattle.std.specs.Vec.{vec_capacity};
 ghost use Rattle.sst_num.specs.Spelling.{varint, fixed, handle_spelling};
 
 use crate::block_handle::Handle;
@@ -30,6 +31,8 @@ fn write_groups(room: &mut [u8; VARINT_ROOM], v: u64) -> usize
 fn put_bytes(out: &mut Vec<u8>, bytes: &[u8]) -> Result<(), Memory>
     ensures ok { OnOk result (out.new.items ≡ out.old.items ++ bytes.now) }
     ensures err { OnErr result (out.new.items ≡ out.old.items) }
+    ensures full { OnErr result (vec_capacity out.old < length out.old.items + length bytes.now) }
+    ensures room { vec_capacity out.old ≤ vec_capacity out.new }
 {
     out.extend_from_slice(bytes)?;
     Ok(())
@@ -41,6 +44,7 @@ fn put_bytes(out: &mut Vec<u8>, bytes: &[u8]) -> Result<(), Memory>
 pub fn put_varint32(out: &mut Vec<u8>, v: u32) -> Result<(), Memory>
     ensures ok { OnOk result (out.new.items ≡ out.old.items ++ varint v) }
     ensures err { OnErr result (out.new.items ≡ out.old.items) }
+    ensures full { OnErr result (vec_capacity out.old < length out.old.items + length (varint v)) }
 {
     put_varint64(out, u64::from(v))
 }
@@ -51,6 +55,7 @@ pub fn put_varint32(out: &mut Vec<u8>, v: u32) -> Result<(), Memory>
 pub fn put_varint64(out: &mut Vec<u8>, v: u64) -> Result<(), Memory>
     ensures ok { OnOk result (out.new.items ≡ out.old.items ++ varint v) }
     ensures err { OnErr result (out.new.items ≡ out.old.items) }
+    ensures full { OnErr result (vec_capacity out.old < length out.old.items + length (varint v)) }
 {
     let mut room = [0; VARINT_ROOM];
     let end = write_groups(&mut room, v);
@@ -64,6 +69,7 @@ pub fn put_varint64(out: &mut Vec<u8>, v: u64) -> Result<(), Memory>
 pub fn put_handle(out: &mut Vec<u8>, v: Handle) -> Result<(), Memory>
     ensures ok { OnOk result (out.new.items ≡ out.old.items ++ handle_spelling v) }
     ensures err { OnErr result (out.new.items ≡ out.old.items) }
+    ensures full { OnErr result (vec_capacity out.old < length out.old.items + length (handle_spelling v)) }
 {
     let mut offset = [0; VARINT_ROOM];
     let mut size = [0; VARINT_ROOM];
@@ -86,6 +92,7 @@ pub fn put_handle(out: &mut Vec<u8>, v: Handle) -> Result<(), Memory>
 pub fn put_fixed16(out: &mut Vec<u8>, v: u16) -> Result<(), Memory>
     ensures ok { OnOk result (out.new.items ≡ out.old.items ++ fixed 2 v) }
     ensures err { OnErr result (out.new.items ≡ out.old.items) }
+    ensures full { OnErr result (vec_capacity out.old < length out.old.items + length (fixed 2 v)) }
 {
     let mut bytes = [0; 2];
     LittleEndian::write_u16(&mut bytes, v);
@@ -98,6 +105,7 @@ pub fn put_fixed16(out: &mut Vec<u8>, v: u16) -> Result<(), Memory>
 pub fn put_fixed32(out: &mut Vec<u8>, v: u32) -> Result<(), Memory>
     ensures ok { OnOk result (out.new.items ≡ out.old.items ++ fixed 4 v) }
     ensures err { OnErr result (out.new.items ≡ out.old.items) }
+    ensures full { OnErr result (vec_capacity out.old < length out.old.items + length (fixed 4 v)) }
 {
     let mut bytes = [0; 4];
     LittleEndian::write_u32(&mut bytes, v);
@@ -110,6 +118,7 @@ pub fn put_fixed32(out: &mut Vec<u8>, v: u32) -> Result<(), Memory>
 pub fn put_fixed64(out: &mut Vec<u8>, v: u64) -> Result<(), Memory>
     ensures ok { OnOk result (out.new.items ≡ out.old.items ++ fixed 8 v) }
     ensures err { OnErr result (out.new.items ≡ out.old.items) }
+    ensures full { OnErr result (vec_capacity out.old < length out.old.items + length (fixed 8 v)) }
 {
     let mut bytes = [0; 8];
     LittleEndian::write_u64(&mut bytes, v);

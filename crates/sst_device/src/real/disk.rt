@@ -1,5 +1,5 @@
 //! A folder of real files.
-ghost use Rattle.std.specs.Prelude.{◌≡◌, ◌≤◌, None};
+ghost use Rattle.std.specs.Prelude.{◌⊎◌, ◌≡◌, ◌≤◌, None};
 ghost use Rattle.sst_device.specs.Faults.{Rose};
 
 use crate::counts::{count_on, raise};
@@ -169,6 +169,7 @@ fn write_over<R: Files + AllocGlobal>(
 fn settle<T>(faults: &mut u64, answer: io::Result<T>) -> Result<T, DevStop>
     ensures failed { result ≡ Err DevStop.Failed → Rose faults.old faults.new }
     ensures counts { faults.old ≤ faults.new }
+    ensures hides_none { (result ≡ Err DevStop.Failed) ⊎ (faults.new ≡ faults.old) }
 {
     match answer {
         Ok(value) => Ok(value),

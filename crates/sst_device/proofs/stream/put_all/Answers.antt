@@ -14,5 +14,5 @@ pub loop-done-preserved : goal.loop-done-preserved
 loop-done-preserved g c = record {
   within = omega (arith, c.split_at.ensures.back_len, c.in_ok-taken.ensures.within);
   written = append_known-more _ _ _ c.loop-done.done c.in_ok-taken.taken c.args.piece.now _ c.loop-done.invariant.written c.split_at.ensures.back c.in_ok-taken.ensures.appended;
-  counts = omega arith;
+  counts = grind arith;
 }

@@ -6,7 +6,7 @@ abbrev pub invariant-loop-done : goal.invariant-loop-done
 invariant-loop-done g l = record {
   within : l.done ≤ length l.piece;
   written : g.O.Sink.written l.out ≡ append_known (g.O.Sink.written l.fn.out) (take l.done l.piece);
-  counts : g.O.Sink.faults l.fn.out ≤ g.O.Sink.faults l.out;
+  counts : g.O.Sink.faults l.out ≡ g.O.Sink.faults l.fn.out;
 }
 
 abbrev pub decreases-loop-done : goal.decreases-loop-done
