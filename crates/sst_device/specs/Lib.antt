@@ -5,3 +5,4 @@ pub mod Stops
 pub mod Framed
 pub mod FrameReading
 pub mod FrameFaults
+pub mod Drawn

@@ -2,6 +2,7 @@
 ghost use Rattle.std.specs.Prelude.{◌≡◌, ℕ, ◌+◌, ◌^◌, ◌≤◌, ◌⊎◌, List, length, nat_lt, Some, Err, IsTrue, IsErr, IfSome, IfNone, IfOk, OnOk};
 ghost use Rattle.sst_device.specs.Folder.{file_of, misses};
 ghost use Rattle.sst_device.specs.Faults.{Rose, counted};
+ghost use Rattle.sst_device.specs.Drawn.{block_drawn};
 ghost use Rattle.sst_device.specs.Framed.{bytes_at};
 ghost use Rattle.sst_device.specs.FrameReading as reading;
 ghost use Rattle.sst_device.specs.FrameReading.{frame_read, opened};
@@ -81,7 +82,8 @@ pub fn draw_framed<F: Folder>(
     ensures device { result ≡ Err Stop.Device → IsTrue (misses (F.held files.old) name.now end)
         ⊎ Rose (F.faults files.old) (F.faults files.new) }
     ensures same_files { F.held files.new ≡ F.held files.old }
-    ensures drew_some { F.drawn files.new ≤ F.drawn files.old + handle.size + 5 }
+    ensures unread { (fault : FrameFault) → reading.early_fault end handle ≡ Some fault → files.new ≡ files.old }
+    ensures drew_some { F.drawn files.new ≤ F.drawn files.old + block_drawn handle }
     ensures never_falls { F.drawn files.old ≤ F.drawn files.new }
     ensures counts { F.faults files.old ≤ F.faults files.new }
     ensures hides_none { (result ≡ Err Stop.Device) ⊎ (F.faults files.new ≡ F.faults files.old) }

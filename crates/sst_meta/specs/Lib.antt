@@ -11,3 +11,4 @@ pub mod LoadReading
 pub mod Meta
 pub mod MetaFaults
 pub mod Put
+pub mod Drawn

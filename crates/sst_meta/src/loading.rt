@@ -1,12 +1,14 @@
 //! What a table file says of itself: its length, its footer, its metaindex and its properties.
-ghost use Rattle.std.specs.Prelude.{◌≡◌, ◌≢◌, ℕ, ◌≤◌, ◌^◌, ◌⊎◌, List, length, Option, Some, Err, IsTrue, IfOk};
+ghost use Rattle.std.specs.Prelude.{◌≡◌, ◌≢◌, ℕ, ◌+◌, ◌*◌, ◌≤◌, ◌^◌, ◌⊎◌, List, length, Option, Some, Err, IsTrue, IfOk};
 ghost use Rattle.sst_block.specs.declared.row_form.RowForm.TheVariants.{Names};
 ghost use Rattle.sst_device.specs.Folder.{file_of, misses};
 ghost use Rattle.sst_device.specs.Faults.{Rose};
+ghost use Rattle.sst_device.specs.Drawn.{block_drawn};
 ghost use Rattle.sst_device.specs.Stops.{Answers, stop_as};
 ghost use Rattle.sst_meta.specs.Blocks.{block_at, rows_checked};
 ghost use Rattle.sst_meta.specs.BlockFooter.{footer_start};
 ghost use Rattle.sst_meta.specs.FooterReading.{last_bytes};
+ghost use Rattle.sst_meta.specs.Drawn.{loaded_drawn, props_drawn};
 ghost use Rattle.sst_meta.specs.LoadReading as reading;
 ghost use Rattle.sst_meta.specs.LoadReading.{load_read, end_read, names_read, props_read, props_at, props_in};
 ghost use Rattle.sst_meta.specs.declared.meta_fault.MetaFault.TheVariants as meta;
@@ -63,6 +65,10 @@ pub fn load<F: Folder>(alloc: Global, files: &mut F, name: &str) -> Result<Loade
     ensures absent { IsTrue (misses (F.held files.old) name.now 0) → (result ≡ Err Stop.Device) ⊎ (result ≡ Err Stop.Memory) }
     ensures same_files { F.held files.new ≡ F.held files.old }
     ensures counts { F.faults files.old ≤ F.faults files.new }
+    ensures hides_none { (result ≡ Err Stop.Device) ⊎ (F.faults files.new ≡ F.faults files.old) }
+    ensures drew { IfOk result (λ loaded. F.drawn files.new ≤ F.drawn files.old + loaded_drawn loaded) }
+    ensures drew_some { F.drawn files.new ≤ F.drawn files.old + 53 + 2 * (2 ^ 29 + 5) }
+    ensures never_falls { F.drawn files.old ≤ F.drawn files.new }
 {
     let len = files.size(name)?;
     if len >= FILE_LIMIT {
@@ -88,6 +94,9 @@ fn draw_tail<F: Folder>(
         ⊎ Rose (F.faults files.old) (F.faults files.new) }
     ensures same_files { F.held files.new ≡ F.held files.old }
     ensures counts { F.faults files.old ≤ F.faults files.new }
+    ensures hides_none { (result ≡ Err DevStop.Failed) ⊎ (F.faults files.new ≡ F.faults files.old) }
+    ensures drew_some { F.drawn files.new ≤ F.drawn files.old + 53 }
+    ensures never_falls { F.drawn files.old ≤ F.drawn files.new }
 {
     let count = len.min(FOOTER_LENGTH);
     draw(alloc, files, name, len - count, count as usize)
@@ -120,6 +129,10 @@ fn load_names<F: Folder>(
         ⊎ Rose (F.faults files.old) (F.faults files.new) }
     ensures same_files { F.held files.new ≡ F.held files.old }
     ensures counts { F.faults files.old ≤ F.faults files.new }
+    ensures hides_none { (result ≡ Err Stop.Device) ⊎ (F.faults files.new ≡ F.faults files.old) }
+    ensures drew { IfOk result (λ loaded. F.drawn files.new ≤ F.drawn files.old + block_drawn loaded.footer.meta + props_drawn loaded.names) }
+    ensures drew_some { F.drawn files.new ≤ F.drawn files.old + 2 * (2 ^ 29 + 5) }
+    ensures never_falls { F.drawn files.old ≤ F.drawn files.new }
 {
     let end = len.saturating_sub(FOOTER_LENGTH);
     match draw_pairs(alloc, files, name, end, footer.meta) {
@@ -174,6 +187,9 @@ fn draw_pairs<F: Folder>(
         ⊎ Rose (F.faults files.old) (F.faults files.new) }
     ensures same_files { F.held files.new ≡ F.held files.old }
     ensures counts { F.faults files.old ≤ F.faults files.new }
+    ensures hides_none { (result ≡ Err Stop.Device) ⊎ (F.faults files.new ≡ F.faults files.old) }
+    ensures drew_some { F.drawn files.new ≤ F.drawn files.old + block_drawn handle }
+    ensures never_falls { F.drawn files.old ≤ F.drawn files.new }
 {
     match draw_framed(alloc, files, name, end, handle) {
         Err(stop) => Err(frame_stop(stop)),
@@ -196,6 +212,9 @@ fn load_props<F: Folder>(
         ⊎ Rose (F.faults files.old) (F.faults files.new) }
     ensures same_files { F.held files.new ≡ F.held files.old }
     ensures counts { F.faults files.old ≤ F.faults files.new }
+    ensures hides_none { (result ≡ Err Stop.Device) ⊎ (F.faults files.new ≡ F.faults files.old) }
+    ensures drew_some { F.drawn files.new ≤ F.drawn files.old + props_drawn names.now }
+    ensures never_falls { F.drawn files.old ≤ F.drawn files.new }
 {
     if names.get(RANGE_DEL).is_some() {
         return Err(Stop::Damage(MetaFault::RangeTombstones));
@@ -223,6 +242,9 @@ fn draw_props<F: Folder>(
         ⊎ Rose (F.faults files.old) (F.faults files.new) }
     ensures same_files { F.held files.new ≡ F.held files.old }
     ensures counts { F.faults files.old ≤ F.faults files.new }
+    ensures hides_none { (result ≡ Err Stop.Device) ⊎ (F.faults files.new ≡ F.faults files.old) }
+    ensures drew_some { F.drawn files.new ≤ F.drawn files.old + block_drawn handle }
+    ensures never_falls { F.drawn files.old ≤ F.drawn files.new }
 {
     match draw_pairs(alloc, files, name, end, handle) {
         Err(stop) => Err(stop),

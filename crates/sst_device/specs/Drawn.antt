@@ -1,0 +1,8 @@
+-- How many bytes of a file are drawn for a block.
+use Rattle.std.specs.Prelude.{ℕ, ◌+◌, ◌^◌, min}
+use Rattle.sst_num.specs.declared.block_handle.Handle.{Handle}
+
+-- at most so many bytes are drawn for the block at a handle: the block, which isn't larger than a block may be, and its
+-- trailer
+abbrev pub block_drawn : Handle → ℕ
+block_drawn h = min h.size (2 ^ 29) + 5
