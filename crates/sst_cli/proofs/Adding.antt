@@ -21,7 +21,7 @@ pub record Adding (start left : Option (List ℕ)) (first writer : BbtWriter) (f
   pub entries : List Entry
   pub after : After writer entries file
   pub said : IsReadTo read_line entries start left
-  pub counts : before ≤ faults
+  pub counts : faults ≡ before
   pub options : writer.options ≡ first.options
 
 -- each entry weighs 64 at least

@@ -1,5 +1,5 @@
 -- What the loop over the lines of an input of calls keeps.
-use Rattle.std.proofs.Common.{ℕ, ◌≤◌, List, [], ◌∷◌, ◌++◌, length, Option}
+use Rattle.std.proofs.Common.{◌≡◌, ℕ, ◌≤◌, List, [], ◌∷◌, ◌++◌, length, Option}
 use Rattle.std.proofs.lemmas.List.Elements.{All-push}
 use Rattle.sst_key.specs.declared.calls.Call.{Call}
 use Rattle.sst_cli.specs.CallText.{IsInLimits, AreInLimits}
@@ -11,7 +11,7 @@ pub record ReadingCalls (start left : Option (List ℕ)) (calls : List Call) (be
   pub said : IsReadTo read_call calls start left
   pub limits : AreInLimits calls
   pub few : length calls ≤ 1048576
-  pub counts : before ≤ faults
+  pub counts : faults ≡ before
 
 -- one call more in its limits
 pub AreInLimits-push : (calls : List Call) (call : Call) → AreInLimits calls → IsInLimits call → AreInLimits (calls ++ call ∷ [])

@@ -1,5 +1,5 @@
 -- What reading on to the end of a line keeps, and what a piece adds.
-use Rattle.std.proofs.Common.{◌≡◌, ℕ, suc, ◌+◌, ◌<◌, ◌≤◌, List, [], ◌∷◌, ◌++◌, length, take, drop, Option, Some, None, refl, sym, ap, ◌∙◌, append_assoc, arith}
+use Rattle.std.proofs.Common.{◌≡◌, ℕ, suc, ◌+◌, ◌<◌, List, [], ◌∷◌, ◌++◌, length, take, drop, Option, Some, None, refl, sym, ap, ◌∙◌, append_assoc, arith}
 use Rattle.std.specs.Io.KnownBytes.{prepend_known}
 use Rattle.std.proofs.lemmas.List.{append-nil, drop-drop}
 use Rattle.sst_cli.specs.Texts.{cut}
@@ -11,7 +11,7 @@ use Rattle.sst_cli.proofs.Refill.{take-past}
 pub record ReadOn (start now : Option (List ℕ)) (old bytes : List ℕ) (before faults : ℕ) : Type 0 where
   pub none : cut 10 bytes ≡ None
   pub told : prepend_known old start ≡ prepend_known bytes now
-  pub counts : before ≤ faults
+  pub counts : faults ≡ before
 
 -- two pieces that are known in turn
 pub prepend_known-append : (front piece : List ℕ) (known : Option (List ℕ)) → prepend_known front (prepend_known piece known) ≡ prepend_known (front ++ piece) known

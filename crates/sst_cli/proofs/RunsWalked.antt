@@ -40,7 +40,7 @@ pub record Walked (index : List ℕ) (count : ℕ) (held now : Option Files) (be
     (ends : List BlockEnd) (entries : List Entry) : Type 0 where
   pub runs : Runs index count held name end walk n ends entries
   pub same_files : now ≡ held
-  pub counts : before ≤ faults
+  pub counts : faults ≡ before
 
 -- where it stands
 pub stands : (index : List ℕ) (count : ℕ) (walk : BlockIter) (rows : List Row) (n : ℕ) → RowsIn index count rows → n < count → Walks walk rows (place_of rows n)

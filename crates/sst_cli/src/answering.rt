@@ -1,5 +1,5 @@
 //! The answers to a list of calls.
-ghost use Rattle.std.specs.Prelude.{◌≡◌, ℕ, ◌≤◌, List, [], ◌++◌, take, Option, Some, option_and_then, slice_get, Err, OnOk, OnErr};
+ghost use Rattle.std.specs.Prelude.{◌⊎◌, ◌≡◌, ℕ, ◌≤◌, List, [], ◌++◌, take, Option, Some, option_and_then, slice_get, Err, OnOk, OnErr};
 ghost use Rattle.std.specs.Io.KnownBytes.{append_known};
 ghost use Rattle.sst_key.specs.ListMachine.{shows};
 ghost use Rattle.sst_device.specs.Faults.{Rose};
@@ -98,6 +98,7 @@ fn print_waiting<O: Sink>(out: &mut O, text: &mut Vec<u8>, least: usize) -> Resu
     ensures all { OnOk result (least ≡ 0 → text.new.items ≡ []) }
     ensures failed { result ≡ Err DevStop.Failed → Rose (O.faults out.old) (O.faults out.new) }
     ensures counts { O.faults out.old ≤ O.faults out.new }
+    ensures hides_none { (result ≡ Err DevStop.Failed) ⊎ (O.faults out.new ≡ O.faults out.old) }
 {
     if text.len() < least {
         return Ok(());
@@ -121,6 +122,7 @@ pub fn print_answers<O: Sink>(
         × (O.written out.new ≡ append_known (O.written out.old) (take n (way_text (blocks_of reader.now) calls.now)))) }
     ensures failed { result ≡ Err DevStop.Failed → Rose (O.faults out.old) (O.faults out.new) }
     ensures counts { O.faults out.old ≤ O.faults out.new }
+    ensures hides_none { (result ≡ Err DevStop.Failed) ⊎ (O.faults out.new ≡ O.faults out.old) }
 {
     let mut position = reader.cursor();
     let mut text = Vec::new(alloc);

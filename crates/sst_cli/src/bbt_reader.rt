@@ -80,6 +80,7 @@ pub fn open<F: Folder>(
     ensures absent { IsTrue (misses (F.held files.old) name.now 0) → (result ≡ Err Stop.Device) ⊎ (result ≡ Err Stop.Memory) }
     ensures same_files { F.held files.new ≡ F.held files.old }
     ensures counts { F.faults files.old ≤ F.faults files.new }
+    ensures hides_none { (result ≡ Err Stop.Device) ⊎ (F.faults files.new ≡ F.faults files.old) }
 {
     match load(alloc, files, name) {
         Err(stop) => Err(meta_stop(stop)),

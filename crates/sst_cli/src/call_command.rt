@@ -33,8 +33,9 @@ use std::alloc::Global;
 
 /// Prints the answers of an open file.
 fn print_all<O: Sink>(alloc: Global, reader: &BbtReader, calls: &[Call], out: &mut O) -> Status
-    ensures { IsPrinted result Status.Done (way_text (blocks_of reader.now) calls.now) (O.written out.old) (O.written out.new)
+    ensures printed { IsPrinted result Status.Done (way_text (blocks_of reader.now) calls.now) (O.written out.old) (O.written out.new)
         (O.faults out.old) (O.faults out.new) }
+    ensures hides_none { (result ≡ Status.Device) ⊎ (O.faults out.new ≡ O.faults out.old) }
 {
     match print_answers(alloc, reader, calls, out) {
         Ok(()) => Status::Done,
@@ -44,8 +45,9 @@ fn print_all<O: Sink>(alloc: Global, reader: &BbtReader, calls: &[Call], out: &m
 
 /// Prints what is wrong with a file.
 fn print_fault<O: Sink>(alloc: Global, out: &mut O, fault: BbtFault) -> Status
-    ensures { IsPrinted result Status.File (fault_text fault) (O.written out.old) (O.written out.new)
+    ensures printed { IsPrinted result Status.File (fault_text fault) (O.written out.old) (O.written out.new)
         (O.faults out.old) (O.faults out.new) }
+    ensures hides_none { (result ≡ Status.Device) ⊎ (O.faults out.new ≡ O.faults out.old) }
 {
     match fault_line(alloc, fault) {
         Ok(text) => print(out, text.as_bytes(), Status::File),
@@ -74,6 +76,8 @@ fn answer_calls<F: Folder, O: Sink>(
     ensures device { result ≡ Status.Device → IsTrue (misses (F.held files.old) name.now 0)
         ⊎ (Rose (F.faults files.old) (F.faults files.new) ⊎ Rose (O.faults out.old) (O.faults out.new)) }
     ensures kept { F.held files.new ≡ F.held files.old }
+    ensures hides_none { (result ≡ Status.Device)
+        ⊎ ((F.faults files.new ≡ F.faults files.old) × (O.faults out.new ≡ O.faults out.old)) }
 {
     match open(alloc, files, name) {
         Ok(reader) => print_all(alloc, &reader, calls, out),
@@ -114,6 +118,8 @@ pub fn calls<F: Folder, I: Intake, O: Sink>(
         ⊎ (Rose (F.faults files.old) (F.faults files.new)
         ⊎ (Rose (I.faults input.old) (I.faults input.new) ⊎ Rose (O.faults out.old) (O.faults out.new))) }
     ensures kept { F.held files.new ≡ F.held files.old }
+    ensures hides_none { (result ≡ Status.Device)
+        ⊎ ((F.faults files.new ≡ F.faults files.old) × ((I.faults input.new ≡ I.faults input.old) × (O.faults out.new ≡ O.faults out.old))) }
 {
     match read_calls(alloc, input) {
         Ok(calls) => answer_calls(alloc, name, calls.as_slice(), files, out),

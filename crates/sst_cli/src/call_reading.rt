@@ -2,7 +2,7 @@
 //!
 //! Of the input no more than one line and the piece around it is held at a time. The line's number is one
 //! more than the count of the calls before it.
-ghost use Rattle.std.specs.Prelude.{◌≡◌, ◌≢◌, ℕ, ◌+◌, ◌<◌, ◌≤◌, ◌^◌, List, [], length, Some, Ok, Err, IfOk, OnOk};
+ghost use Rattle.std.specs.Prelude.{◌⊎◌, ◌≡◌, ◌≢◌, ℕ, ◌+◌, ◌<◌, ◌≤◌, ◌^◌, List, [], length, Some, Ok, Err, IfOk, OnOk};
 ghost use Rattle.sst_key.specs.declared.calls.Call.{Call};
 ghost use Rattle.sst_cli.specs.CallText.{IsInLimits, AreInLimits};
 ghost use Rattle.sst_cli.specs.Reading as reading;
@@ -58,6 +58,7 @@ pub fn read_calls<I: Intake>(alloc: Global, input: &mut I) -> Result<Calls, Inpu
         → (text : List ℕ) → I.left input.old ≡ Some text → reading.read_calls text ≡ Err refusal }
     ensures failed { result ≡ Err (InputStop.Device DevStop.Failed) → Rose (I.faults input.old) (I.faults input.new) }
     ensures counts { I.faults input.old ≤ I.faults input.new }
+    ensures hides_none { (result ≡ Err (InputStop.Device DevStop.Failed)) ⊎ (I.faults input.new ≡ I.faults input.old) }
 {
     let mut lines = LineReader::new(alloc);
     let mut calls = Calls::new(alloc);

@@ -1,7 +1,7 @@
 //! The lines of an input, which comes in pieces: where a line ends, whatever stands in it.
 //!
 //! Each byte is taken once, searched for a line end once, and moved to the front at most once.
-ghost use Rattle.std.specs.Prelude.{◌≡◌, ℕ, ◌+◌, ◌<◌, ◌≤◌, ◌^◌, List, ◌++◌, [], length, vec_len, take, drop, Option, None, Some, IfOk, OnErr};
+ghost use Rattle.std.specs.Prelude.{◌⊎◌, ◌≡◌, ℕ, ◌+◌, ◌<◌, ◌≤◌, ◌^◌, List, ◌++◌, [], length, vec_len, take, drop, Option, None, Some, IfOk, OnErr};
 ghost use Rattle.std.specs.Io.KnownBytes.{prepend_known};
 ghost use Rattle.sst_device.specs.Faults.{Rose};
 ghost use Rattle.sst_cli.specs.Texts.{cut};
@@ -54,6 +54,7 @@ fn refill<I: Intake>(bytes: &mut Vec<u8>, input: &mut I) -> Result<usize, DevSto
     ensures end { result ≡ Ok 0 → IsRead (I.left input.new) }
     ensures failed { result ≡ Err DevStop.Failed → Rose (I.faults input.old) (I.faults input.new) }
     ensures counts { I.faults input.old ≤ I.faults input.new }
+    ensures hides_none { (result ≡ Err DevStop.Failed) ⊎ (I.faults input.new ≡ I.faults input.old) }
 {
     let before = bytes.len();
     if bytes.resize(before + PIECE, 0).is_err() {
@@ -92,6 +93,7 @@ pub fn read_on<I: Intake>(bytes: &mut Vec<u8>, input: &mut I) -> Result<Found, D
     ensures found { IfOk result (λ found. IsFound found bytes.new.items (I.left input.new)) }
     ensures failed { result ≡ Err DevStop.Failed → Rose (I.faults input.old) (I.faults input.new) }
     ensures counts { I.faults input.old ≤ I.faults input.new }
+    ensures hides_none { (result ≡ Err DevStop.Failed) ⊎ (I.faults input.new ≡ I.faults input.old) }
 {
     while bytes.len() <= LINE_LIMIT {
         let searched = bytes.len();
@@ -143,6 +145,7 @@ impl LineReader {
         ensures found { IfOk result (λ found. IsFound found self.new (I.left input.new)) }
         ensures failed { result ≡ Err DevStop.Failed → Rose (I.faults input.old) (I.faults input.new) }
         ensures counts { I.faults input.old ≤ I.faults input.new }
+        ensures hides_none { (result ≡ Err DevStop.Failed) ⊎ (I.faults input.new ≡ I.faults input.old) }
     {
         let (_, unread) = self.bytes.as_slice().split_at(self.start);
         match first_place(unread, LINE_END) {

@@ -1,5 +1,5 @@
 //! What a command prints, and the status that goes with it.
-ghost use Rattle.std.specs.Prelude.{◌≡◌};
+ghost use Rattle.std.specs.Prelude.{◌⊎◌, ◌≡◌};
 ghost use Rattle.sst_cli.specs.Refusals.{refusal_text};
 ghost use Rattle.sst_cli.specs.Run.{IsFault};
 ghost use Rattle.sst_cli.specs.Printed.{IsPrinted};
@@ -14,6 +14,7 @@ use std::alloc::Global;
 pub fn status_of(stop: DevStop) -> Status
     ensures fault { IsFault result }
     ensures device { result ≡ Status.Device → stop ≡ DevStop.Failed }
+    ensures failed { stop ≡ DevStop.Failed → result ≡ Status.Device }
 {
     match stop {
         DevStop::Failed => Status::Device,
@@ -23,8 +24,9 @@ pub fn status_of(stop: DevStop) -> Status
 
 /// Prints a text, and answers the status that goes with it.
 pub fn print<O: Sink>(out: &mut O, text: &[u8], status: Status) -> Status
-    ensures { IsPrinted result status text.now (O.written out.old) (O.written out.new)
+    ensures printed { IsPrinted result status text.now (O.written out.old) (O.written out.new)
         (O.faults out.old) (O.faults out.new) }
+    ensures hides_none { (result ≡ Status.Device) ⊎ (O.faults out.new ≡ O.faults out.old) }
 {
     match put_all(out, text) {
         Ok(()) => status,
@@ -34,8 +36,9 @@ pub fn print<O: Sink>(out: &mut O, text: &[u8], status: Status) -> Status
 
 /// Prints why the input is refused.
 pub fn print_refusal<O: Sink>(alloc: Global, out: &mut O, refusal: Refusal) -> Status
-    ensures { IsPrinted result Status.Input (refusal_text refusal) (O.written out.old) (O.written out.new)
+    ensures printed { IsPrinted result Status.Input (refusal_text refusal) (O.written out.old) (O.written out.new)
         (O.faults out.old) (O.faults out.new) }
+    ensures hides_none { (result ≡ Status.Device) ⊎ (O.faults out.new ≡ O.faults out.old) }
 {
     match refusal_line(alloc, refusal) {
         Ok(text) => print(out, text.as_bytes(), Status::Input),

@@ -29,6 +29,8 @@ pub fn produce<F: Folder, I: Intake>(
     ensures others { ChangesOnly line.entry.name.now (F.held files.old) (F.held files.new) }
     ensures failed { result ≡ Err (InputStop.Device DevStop.Failed) → Rose (F.faults files.old) (F.faults files.new)
         ⊎ Rose (I.faults input.old) (I.faults input.new) }
+    ensures hides_none { (result ≡ Err (InputStop.Device DevStop.Failed))
+        ⊎ ((F.faults files.new ≡ F.faults files.old) × (I.faults input.new ≡ I.faults input.old)) }
 {
     files.begin(line.name)?;
     let mut writer = BbtWriter::new(alloc, line.options)?;

@@ -188,6 +188,8 @@ pub fn run<F: Folder, I: Intake, O: Sink>(
         × IsLacking (F.held files.old) name (I.left input.old))
         ⊎ (Rose (F.faults files.old) (F.faults files.new)
         ⊎ (Rose (I.faults input.old) (I.faults input.new) ⊎ Rose (O.faults out.old) (O.faults out.new))) }
+    ensures hides_none { (result ≡ Status.Device)
+        ⊎ ((F.faults files.new ≡ F.faults files.old) × ((I.faults input.new ≡ I.faults input.old) × (O.faults out.new ≡ O.faults out.old))) }
     ensures others { (name : List ℕ) → line.out_name (map string_bytes words.now) ≡ Some name
         → ChangesOnly name (F.held files.old) (F.held files.new) }
     ensures kept { (name : List ℕ) → line.calls_name (map string_bytes words.now) ≡ Some name

@@ -2,7 +2,7 @@
 //!
 //! Of the input no more than one line and the piece around it is held at a time. The line's number is one
 //! more than the count of the writer.
-ghost use Rattle.std.specs.Prelude.{◌≡◌, ◌≢◌, ℕ, ◌<◌, ◌≤◌, ◌^◌, List, [], length, Some, Ok, Err, IfOk, OnOk};
+ghost use Rattle.std.specs.Prelude.{◌⊎◌, ◌≡◌, ◌≢◌, ℕ, ◌<◌, ◌≤◌, ◌^◌, List, [], length, Some, Ok, Err, IfOk, OnOk};
 ghost use Rattle.std.specs.Io.KnownBytes.{prepend_known};
 ghost use Rattle.sst_key.specs.declared.entries.Entry.{Entry};
 ghost use Rattle.sst_cli.specs.After.{After};
@@ -69,6 +69,7 @@ pub fn next_line<I: Intake>(
         → (text : List ℕ) → prepend_known lines.old (I.left input.old) ≡ Some text → HasNoLine number text refusal }
     ensures failed { result ≡ Err (InputStop.Device DevStop.Failed) → Rose (I.faults input.old) (I.faults input.new) }
     ensures counts { I.faults input.old ≤ I.faults input.new }
+    ensures hides_none { (result ≡ Err (InputStop.Device DevStop.Failed)) ⊎ (I.faults input.new ≡ I.faults input.old) }
 {
     match lines.read_line(input)? {
         Found::Line(n) => Ok(Some(n)),
@@ -150,6 +151,7 @@ pub fn add_lines<I: Intake>(
         → (text : List ℕ) → I.left input.old ≡ Some text → reading.read_input text ≡ Err refusal }
     ensures failed { result ≡ Err (InputStop.Device DevStop.Failed) → Rose (I.faults input.old) (I.faults input.new) }
     ensures counts { I.faults input.old ≤ I.faults input.new }
+    ensures hides_none { (result ≡ Err (InputStop.Device DevStop.Failed)) ⊎ (I.faults input.new ≡ I.faults input.old) }
     ensures options { writer.new.options ≡ writer.old.options }
 {
     let mut lines = LineReader::new(alloc);

@@ -40,6 +40,8 @@ pub fn write<F: Folder, I: Intake, O: Sink>(
     ensures device { result ≡ Status.Device → Rose (F.faults files.old) (F.faults files.new)
         ⊎ (Rose (I.faults input.old) (I.faults input.new) ⊎ Rose (O.faults out.old) (O.faults out.new)) }
     ensures others { ChangesOnly line.entry.name.now (F.held files.old) (F.held files.new) }
+    ensures hides_none { (result ≡ Status.Device)
+        ⊎ ((F.faults files.new ≡ F.faults files.old) × ((I.faults input.new ≡ I.faults input.old) × (O.faults out.new ≡ O.faults out.old))) }
 {
     match produce(alloc, line, files, input) {
         Ok(count) => print_done(alloc, out, count),
@@ -50,8 +52,9 @@ pub fn write<F: Folder, I: Intake, O: Sink>(
 
 /// Prints how many entries were written.
 fn print_done<O: Sink>(alloc: Global, out: &mut O, count: u64) -> Status
-    ensures { IsPrinted result Status.Done (done_text count) (O.written out.old) (O.written out.new)
+    ensures printed { IsPrinted result Status.Done (done_text count) (O.written out.old) (O.written out.new)
         (O.faults out.old) (O.faults out.new) }
+    ensures hides_none { (result ≡ Status.Device) ⊎ (O.faults out.new ≡ O.faults out.old) }
 {
     match format!(in alloc; "wrote {count}\n") {
         Ok(text) => print(out, text.as_bytes(), Status::Done),

@@ -47,6 +47,7 @@ pub fn open_index<F: Folder>(
         ⊎ Rose (F.faults files.old) (F.faults files.new) }
     ensures same_files { F.held files.new ≡ F.held files.old }
     ensures counts { F.faults files.old ≤ F.faults files.new }
+    ensures hides_none { (result ≡ Err Stop.Device) ⊎ (F.faults files.new ≡ F.faults files.old) }
 {
     match draw_framed(alloc, files, name, end, handle) {
         Err(stop) => Err(frame_stop(stop)),
@@ -70,6 +71,7 @@ fn open_blocks<F: Folder>(
         ⊎ Rose (F.faults files.old) (F.faults files.new) }
     ensures same_files { F.held files.new ≡ F.held files.old }
     ensures counts { F.faults files.old ≤ F.faults files.new }
+    ensures hides_none { (result ≡ Err Stop.Device) ⊎ (F.faults files.new ≡ F.faults files.old) }
 {
     match count_rows(alloc, index, INDEX_FORM) {
         Err(Refused::Cause(fault)) => Err(Stop::Damage(BbtFault::Block(handle, fault))),
@@ -116,6 +118,7 @@ fn read_runs<F: Folder>(
         ⊎ Rose (F.faults files.old) (F.faults files.new) }
     ensures same_files { F.held files.new ≡ F.held files.old }
     ensures counts { F.faults files.old ≤ F.faults files.new }
+    ensures hides_none { (result ≡ Err Stop.Device) ⊎ (F.faults files.new ≡ F.faults files.old) }
 {
     let room = KeyRoom::new(alloc)?;
     let mut rows = BlockIter::start(index, INDEX_FORM, room);
@@ -149,6 +152,7 @@ fn read_block<F: Folder>(
         ⊎ Rose (F.faults files.old) (F.faults files.new) }
     ensures same_files { F.held files.new ≡ F.held files.old }
     ensures counts { F.faults files.old ≤ F.faults files.new }
+    ensures hides_none { (result ≡ Err Stop.Device) ⊎ (F.faults files.new ≡ F.faults files.old) }
 {
     match take_handle(value) {
         None => unreachable!(),

@@ -38,7 +38,7 @@ loop-done-preserved g c =
       within = omega arith;
       belongs = c.put_answer.ensures.belongs;
       printing = puts (blocks_of c.args.reader.now) c.args.calls.now _ _ _ c.put_answer.new.text.items put.0 c.print_waiting.new.text.items c.put_answer.new.position _ put.1 put.2 next;
-      counts = omega arith;
+      counts = grind arith;
     }
 
 -- src/answering.rt:114:1

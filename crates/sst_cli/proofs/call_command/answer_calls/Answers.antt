@@ -16,7 +16,7 @@ returns-in-Ok-clause-told g c = λ file held.
     let blocks = blocks_of c.in-Ok.reader in
     let seqs = table-seqs c.in-Ok.reader (rw (sym c.reader.view_is) c.reader.invariant) in
     answered c.print_all.result (Ok (row_blocks_of blocks)) (blocks_read file) c.args.calls.now (way_text blocks c.args.calls.now) (g.O.Sink.written c.args.out.now) (g.O.Sink.written c.print_all.new.out) (g.O.Sink.faults c.args.out.now) (g.O.Sink.faults c.print_all.new.out)
-    c.print_all.ensures (blocks, seqs, refl, refl) (sym (c.in-Ok.ensures.told file held))
+    c.print_all.ensures.printed (blocks, seqs, refl, refl) (sym (c.in-Ok.ensures.told file held))
 
 -- src/call_command.rt:57:1
 pub returns-in-Ok-clause-printed : goal.returns-in-Ok-clause-printed
@@ -25,7 +25,7 @@ returns-in-Ok-clause-printed g c =
     let file = file_of (g.F.Folder.held c.args.files.now) c.args.name.now in (
       text,
       file_text_is file (Ok (row_blocks_of (blocks_of c.in-Ok.reader))) c.args.calls.now text c.in-Ok.ensures.told (blocks_of c.in-Ok.reader, table-seqs c.in-Ok.reader (rw (sym c.reader.view_is) c.reader.invariant), refl, refl),
-      some_printed _ _ text (g.O.Sink.written c.args.out.now) (g.O.Sink.written c.print_all.new.out) (g.O.Sink.faults c.args.out.now) (g.O.Sink.faults c.print_all.new.out) c.print_all.ensures,
+      some_printed _ _ text (g.O.Sink.written c.args.out.now) (g.O.Sink.written c.print_all.new.out) (g.O.Sink.faults c.args.out.now) (g.O.Sink.faults c.print_all.new.out) c.print_all.ensures.printed,
     )
 
 -- src/call_command.rt:57:1
@@ -36,7 +36,7 @@ returns-in-Err-Damage-clause-printed g c =
     let reads = rw c.in-Err-Damage.field-0-is at c.in-Err-Damage.ensures.told in (
       text,
       file_text_is file (Err c.in-Err-Damage.fault) c.args.calls.now text reads refl,
-      some_printed _ _ text (g.O.Sink.written c.args.out.now) (g.O.Sink.written c.print_fault.new.out) (g.O.Sink.faults c.args.out.now) (g.O.Sink.faults c.print_fault.new.out) c.print_fault.ensures,
+      some_printed _ _ text (g.O.Sink.written c.args.out.now) (g.O.Sink.written c.print_fault.new.out) (g.O.Sink.faults c.args.out.now) (g.O.Sink.faults c.print_fault.new.out) c.print_fault.ensures.printed,
     )
 
 -- src/call_command.rt:57:1

@@ -20,7 +20,7 @@ returns-in-Err-Refused-clause-printed g c =
     let file = file_of (g.F.Folder.held c.args.files.now) c.args.name.now in (
       refusal_text refusal,
       input_text_is file (g.I.Intake.left c.args.input.now) (Err refusal) (refusal_text refusal) said refl,
-      some_printed _ _ (refusal_text refusal) (g.O.Sink.written c.args.out.now) (g.O.Sink.written c.print_refusal.new.out) (g.O.Sink.faults c.args.out.now) (g.O.Sink.faults c.print_refusal.new.out) c.print_refusal.ensures,
+      some_printed _ _ (refusal_text refusal) (g.O.Sink.written c.args.out.now) (g.O.Sink.written c.print_refusal.new.out) (g.O.Sink.faults c.args.out.now) (g.O.Sink.faults c.print_refusal.new.out) c.print_refusal.ensures.printed,
     )
 
 -- src/call_command.rt:85:1

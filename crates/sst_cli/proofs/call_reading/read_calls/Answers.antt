@@ -54,5 +54,5 @@ loop-calls-preserved g c =
       said = more;
       limits = limits;
       few = omega arith;
-      counts = omega (arith, kept.counts, c.next_line.ensures.counts);
+      counts = grind (arith, kept.counts, c.next_line.ensures.hides_none);
     })

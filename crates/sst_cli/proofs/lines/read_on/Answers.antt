@@ -24,5 +24,5 @@ loop-bytes-preserved g c =
     record {
       none = none_on old piece c.refill.new.bytes.items c.loop-bytes.invariant.none none more.2;
       told = told_on (g.I.Intake.left c.args.input.now) (g.I.Intake.left c.loop-bytes.input) (g.I.Intake.left c.refill.new.input) c.args.bytes.now.items old piece c.refill.new.bytes.items c.loop-bytes.invariant.told more.3 more.2;
-      counts = omega (arith, c.refill.ensures.counts, c.loop-bytes.invariant.counts);
+      counts = grind (arith, c.refill.ensures.hides_none, c.loop-bytes.invariant.counts);
     }

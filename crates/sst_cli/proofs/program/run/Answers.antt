@@ -61,7 +61,7 @@ returns-in-Some-calls_name-clause-damaged g c = λ name file text calls words he
 
 pub returns-in-None-calls_name-clause-printed : goal.returns-in-None-calls_name-clause-printed
 returns-in-None-calls_name-clause-printed g c =
-    let printed = rw c.as_bytes.ensures.value at c.print.ensures in
+    let printed = rw c.as_bytes.ensures.value at c.print.ensures.printed in
     let words : List (List ℕ) = map string_bytes c.args.words.now in
     let held = g.F.Folder.held c.args.files.now in
     let left = g.I.Intake.left c.args.input.now in

@@ -65,6 +65,6 @@ loop-lines-preserved g c =
       entries = kept.entries ++ added.entry ∷ [];
       after = subst (λ (b : List ℕ). After c.add_line.new.writer (kept.entries ++ added.entry ∷ []) b) (sym added.put) added.after;
       said = rw c.pass.ensures more;
-      counts = omega (arith, kept.counts, c.next_line.ensures.counts);
+      counts = grind (arith, kept.counts, c.next_line.ensures.hides_none);
       options = c.add_line.ensures.options ∙ kept.options;
     }

@@ -10,7 +10,7 @@ returns-in-Ok-clause-printed g c =
     let left = g.I.Intake.left c.args.input.now in
     let made = c.in-Ok.ensures.ok in
     let says = text_that_says left (Ok made.entries) (λ input told. ap text_for (made.said input told)) in
-    let printed = rw made.counted at c.print_done.ensures in
+    let printed = rw made.counted at c.print_done.ensures.printed in
     (done_text (length made.entries), says, some_printed c.print_done.result _ (done_text (length made.entries)) (g.O.Sink.written c.args.out.now) (g.O.Sink.written c.print_done.new.out) (g.O.Sink.faults c.args.out.now) (g.O.Sink.faults c.print_done.new.out) printed)
 
 pub returns-in-Err-Refused-clause-printed : goal.returns-in-Err-Refused-clause-printed
@@ -19,7 +19,7 @@ returns-in-Err-Refused-clause-printed g c =
     let refusal = c.in-Err-Refused.refusal in
     let said = c.produce.ensures.refused refusal (rw c.in-Err-Refused.field-0-is at c.in-Err-Refused.is) in
     let says = text_that_says left (Err refusal) (λ input told. ap text_for (said input told)) in
-    (refusal_text refusal, says, some_printed c.print_refusal.result _ (refusal_text refusal) (g.O.Sink.written c.args.out.now) (g.O.Sink.written c.print_refusal.new.out) (g.O.Sink.faults c.args.out.now) (g.O.Sink.faults c.print_refusal.new.out) c.print_refusal.ensures)
+    (refusal_text refusal, says, some_printed c.print_refusal.result _ (refusal_text refusal) (g.O.Sink.written c.args.out.now) (g.O.Sink.written c.print_refusal.new.out) (g.O.Sink.faults c.args.out.now) (g.O.Sink.faults c.print_refusal.new.out) c.print_refusal.ensures.printed)
 
 pub returns-in-Err-Device-clause-printed : goal.returns-in-Err-Device-clause-printed
 returns-in-Err-Device-clause-printed g c =
@@ -30,11 +30,11 @@ pub returns-in-Ok-clause-written : goal.returns-in-Ok-clause-written
 returns-in-Ok-clause-written g c = λ text entries told reads.
     let made = c.in-Ok.ensures.ok in
     let same = same_entries (read_input text) made.entries entries (made.said text told) reads in
-    done_printed c.print_done.result c.in-Ok.count (record { name = c.args.line.name.now; options = c.args.line.options }) made.entries entries (g.F.Folder.held c.args.files.now) (g.F.Folder.held c.produce.new.files) (g.I.Intake.left c.produce.new.input) (g.O.Sink.written c.args.out.now) (g.O.Sink.written c.print_done.new.out) (g.O.Sink.faults c.args.out.now) (g.O.Sink.faults c.print_done.new.out) c.print_done.ensures made.counted same made.file (made.read text told)
+    done_printed c.print_done.result c.in-Ok.count (record { name = c.args.line.name.now; options = c.args.line.options }) made.entries entries (g.F.Folder.held c.args.files.now) (g.F.Folder.held c.produce.new.files) (g.I.Intake.left c.produce.new.input) (g.O.Sink.written c.args.out.now) (g.O.Sink.written c.print_done.new.out) (g.O.Sink.faults c.args.out.now) (g.O.Sink.faults c.print_done.new.out) c.print_done.ensures.printed made.counted same made.file (made.read text told)
 
 pub returns-in-Ok-clause-device : goal.returns-in-Ok-clause-device
 returns-in-Ok-clause-device g c = λ fault.
-    inr (inr (device_printed c.print_done.result _ (g.O.Sink.written c.args.out.now) (g.O.Sink.written c.print_done.new.out) (g.O.Sink.faults c.args.out.now) (g.O.Sink.faults c.print_done.new.out) c.print_done.ensures fault))
+    inr (inr (device_printed c.print_done.result _ (g.O.Sink.written c.args.out.now) (g.O.Sink.written c.print_done.new.out) (g.O.Sink.faults c.args.out.now) (g.O.Sink.faults c.print_done.new.out) c.print_done.ensures.printed fault))
 
 pub returns-in-Ok-clause-refused : goal.returns-in-Ok-clause-refused
 returns-in-Ok-clause-refused g c = λ text refusal told reads.
@@ -52,4 +52,4 @@ returns-in-Err-Refused-clause-refused g c = λ text refusal told reads.
     let some = c.in-Err-Refused.refusal in
     let said = c.produce.ensures.refused some (rw c.in-Err-Refused.field-0-is at c.in-Err-Refused.is) in
     let same = same_refusal (read_input text) some refusal (said text told) reads in
-    refusal_printed c.print_refusal.result some refusal (g.O.Sink.written c.args.out.now) (g.O.Sink.written c.print_refusal.new.out) (g.O.Sink.faults c.args.out.now) (g.O.Sink.faults c.print_refusal.new.out) c.print_refusal.ensures same
+    refusal_printed c.print_refusal.result some refusal (g.O.Sink.written c.args.out.now) (g.O.Sink.written c.print_refusal.new.out) (g.O.Sink.faults c.args.out.now) (g.O.Sink.faults c.print_refusal.new.out) c.print_refusal.ensures.printed same

@@ -51,7 +51,7 @@ returns-in_err-place-clause-device g c = λ failed.
     let so = c.loop-row.invariant in
     let p = err_from_is_err_and c.from_residual-in_err-place.result c.from_residual-in_err-place.ensures.1 in
     failed_later (g.F.Folder.held c.args.files.now) (g.F.Folder.held c.loop-row.files) c.args.name.now c.args.end (g.F.Folder.faults c.args.files.now)
-    (g.F.Folder.faults c.loop-row.files) (g.F.Folder.faults c.read_block.new.files) so.same_files so.counts
+    (g.F.Folder.faults c.loop-row.files) (g.F.Folder.faults c.read_block.new.files) so.same_files (omega (arith, so.counts))
     (c.in_err-place.ensures.device (passed_device c.from_residual-in_err-place.result p.0 c.in_err-place.field-0.0 p.1 p.2 failed))
 
 pub returns-in_err-place-clause-same_files : goal.returns-in_err-place-clause-same_files
@@ -101,7 +101,7 @@ loop-row-preserved g c =
             ∙ ap (λ (blocks : List IndexedBlock). Ok (row_blocks_of blocks)) (sym more);
       };
       same_files = c.in_ok-place.ensures.same_files ∙ so.same_files;
-      counts = omega (arith, c.in_ok-place.ensures.counts, so.counts);
+      counts = grind (arith, c.in_ok-place.ensures.hides_none, so.counts);
     }
 
 pub invariant_of-result : goal.invariant_of-result
@@ -119,4 +119,4 @@ pub returns-clause-same_files : goal.returns-clause-same_files
 returns-clause-same_files g c = c.loop-row.invariant.same_files
 
 pub returns-clause-counts : goal.returns-clause-counts
-returns-clause-counts g c = c.loop-row.invariant.counts
+returns-clause-counts g c = omega (arith, c.loop-row.invariant.counts)
