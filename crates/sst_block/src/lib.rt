@@ -45,8 +45,8 @@
 //! [`BlockBuilder`] makes exactly one block of given rows: each `interval`-th row is a restart, and every other
 //! row shares all that its key has in common with the key before it, as RocksDB's own builder has it. The
 //! bytes are those of `block_of` (specs/Chosen.antt), and they stand for the rows in the sense of `Block`
-//! (specs/Block.antt), which says what the bytes of any block say, whoever made it. Before each call the
-//! builder knows the length of the block that it would make.
+//! (specs/Block.antt), which says what the bytes of any block say, whoever made it. The builder knows the
+//! length of the block that it would make now ([`BlockBuilder::size_now`]).
 //!
 //! Where memory runs out a call answers so, and each later call of that builder that can fail answers the same.
 //! No bytes of rows are copied when a block is finished.
