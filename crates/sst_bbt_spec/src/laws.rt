@@ -11,7 +11,7 @@ ghost use Rattle.sst_bbt_spec.specs.Way.{IndexedBlock, Separate, joined, way_ans
 /// Where the separators separate the blocks of a table, each call is answered as the list of its entries answers.
 ///
 /// It holds of a table of any number of blocks whose sequence numbers are below 2^56. Where a separator is before a key
-/// of its own block, the two ways differ.
+/// of its own block, the way of the index may answer otherwise than the list.
 /// RocksDB: `BlockBasedTableIterator` in table/block_based/block_based_table_iterator.cc, and `BlockBasedTable::Get` in
 /// table/block_based/block_based_table_reader.cc.
 pub fn the_way_is_the_lists()

@@ -19,13 +19,27 @@
 //! - The entries of all data blocks, in the order of the index, are the list. No key of a block is after its separator,
 //!   and each key of the blocks behind it is (`Runs`, specs/Runs.antt; `BlockBased`, specs/BlockBased.antt).
 //!
-//! # An example
+//! # Example
 //!
-//! A file of two data blocks, with the entries of the user keys `61` and `62`, both with the sequence number 1, has an index
-//! with the separators `61 1` and `62 1`. Seek to `61 0` passes the first block, since its separator is before the
-//! target, and lands on the entry of `62`.
+//! A file of two data blocks: the first has the entry with user key 61, sequence number 1 and value 78, the second the one
+//! with user key 62, sequence number 1 and value 79. Each separator is the last key of its block. The file begins so:
 //!
-//! # What is promised
+//! ```text
+//! at  bytes                                      what they are
+//!  0  00 09 01 61 01 01 00 00 00 00 00 00 78     the first data block: its row,
+//! 13  00 00 00 00 01 00 00 00                    and one restart
+//! 21                                             its trailer, 5 bytes
+//! 26  00 09 01 62 01 01 00 00 00 00 00 00 79     the second: its row,
+//! 39  00 00 00 00 01 00 00 00                    and one restart
+//! 47                                             its trailer, 5 bytes
+//! 52  00 09 02 61 01 01 00 00 00 00 00 00 00 15  the index: separator 61 1, and the handle of the 21 bytes at 0,
+//! 66  00 09 02 62 01 01 00 00 00 00 00 00 1a 15  separator 62 1, and the handle of the 21 bytes at 26,
+//! 80  00 00 00 00 0e 00 00 00 02 00 00 00        and two restarts
+//! ```
+//!
+//! Seek to `61 0` passes the first block, since its separator is before the target, and lands on the entry of `62`.
+//!
+//! # Promises
 //!
 //! - A file opens to one list of data blocks at most, and stands for one list of entries at most
 //!   ([`a_file_stands_for_one_list`]); this list is in order ([`what_a_file_stands_for_is_ordered`]).

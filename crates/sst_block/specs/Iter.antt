@@ -6,7 +6,7 @@ use Rattle.sst_block.specs.declared.iter.BlockIter.{BlockIter}
 use Rattle.sst_block.specs.Block.{Row, Spelled}
 use Rattle.sst_block.specs.Reading.{Reads, row_at}
 
--- the block stands for the rows
+-- the block reads as the rows; in a form without flags one of at most 2 ^ 29 bytes then stands for them (`Block`)
 abbrev pub StandsFor : RowForm → List ℕ → List Row → Type 0
 StandsFor form block rows = Reads form block rows
 

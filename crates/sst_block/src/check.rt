@@ -160,7 +160,7 @@ fn check_parts(
     Ok(found)
 }
 
-/// The number of rows of a block, or its first fault.
+/// The number of rows of a block, or its first fault: `check_block` by its clause `exact`, from which the others follow.
 #[tactic(auto, unfolding(crate::specs::Reading::block_read))]
 fn count_rows(alloc: Global, block: &[u8], form: RowForm) -> Result<u32, Refused<BlockFault>>
     requires short { length block.now ≤ 2 ^ 29 }

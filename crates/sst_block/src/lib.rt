@@ -24,7 +24,7 @@
 //! RocksDB: table/block_based/block_builder.cc (the layout at its top), and the wiki page "Rocksdb
 //! BlockBasedTable Format".
 //!
-//! # An example
+//! # Example
 //!
 //! The data block of one entry, whose user key is `a`, whose sequence number is 1, and which sets the value `x`:
 //!
@@ -40,22 +40,22 @@
 //! 17  01 00 00 00                 there is one restart
 //! ```
 //!
-//! # What is promised
+//! # Promises
 //!
 //! [`BlockBuilder`] makes exactly one block of given rows: each `interval`-th row is a restart, and every other
 //! row shares all that its key has in common with the key before it, as RocksDB's own builder has it. The
 //! bytes are those of `block_of` (specs/Chosen.antt), and they stand for the rows in the sense of `Block`
-//! (specs/Block.antt), which says what the bytes of any block say, whoever made it. Before each call the
-//! builder knows the length of the block that it would make.
+//! (specs/Block.antt), which says what the bytes of any block say, whoever made it. The builder knows the
+//! length of the block that it would make now ([`BlockBuilder::size_now`]).
 //!
 //! Where memory runs out a call answers so, and each later call of that builder that can fail answers the same.
 //! No bytes of rows are copied when a block is finished.
 //!
 //! [`check_block`] says of any bytes, at most 2^29 of them, how many rows they have as a block of some form, or their
-//! first fault, exactly as `block_read` (specs/Reading.antt) has it. Nothing of a block is taken on trust: each length has its shortest
-//! spelling and fits, each key is after the one before, entries have known kinds, index rows have handles, and each
-//! restart leads to a row that shares nothing. How much of a common front a row shares, and which of the rows that
-//! share nothing are restarts, is free.
+//! first fault, exactly as `block_read` (specs/Reading.antt) has it. Nothing of a block is taken on trust: each length
+//! has its shortest spelling and fits, each key is after the one before, entries have known kinds, index rows have
+//! handles, and each restart leads to a row that shares nothing. How much of a common front a row shares, and which of
+//! the rows that share nothing are restarts, is free.
 //!
 //! The first fault is the one that comes first in this order:
 //!

@@ -13,7 +13,8 @@ use sst_key::{Entry, KeyRoom, unpack};
 use sst_num::{Bytes, Memory, Refused};
 use std::alloc::Global;
 
-/// How many rows a block has, or its first fault.
+/// How many rows a block has, or its first fault: `check_block` by its clause `exact` alone, which is all that its callers
+/// need.
 pub fn count_rows(alloc: Global, block: &[u8], form: RowForm) -> Result<u32, Refused<BlockFault>>
     requires short { length block.now ≤ 2 ^ 29 }
     requires form { HasNoFlags form }

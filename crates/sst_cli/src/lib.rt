@@ -38,7 +38,7 @@
 //! - Calls: at most 1,048,576, all read and checked before FILE is opened. A line is printed for each: the entry that
 //!   is shown, `none`, or `not-positioned`.
 //!
-//! # An example
+//! # Example
 //!
 //! `write block OUT` with the input `61 1 P 78` and LF prints `wrote 1` and LF, and leaves a file of 402
 //! bytes:
@@ -75,7 +75,7 @@
 //! RocksDB: the wiki page "Rocksdb BlockBasedTable Format"; table/block_based/block_based_table_builder.cc,
 //! table/block_based/block_based_table_reader.cc and table/format.cc. The words and the lines are this project's own.
 //!
-//! # What is promised
+//! # Promises
 //!
 //! - For each list that fits (`Fits`, specs/Written.antt), given as the lines of its entries (`lines_text`,
 //!   specs/EntryText.antt), OUT holds what is `Written` for it, `wrote N` is printed, and the input is read
@@ -101,9 +101,22 @@
 //!
 //! # For now
 //!
-//! A part whose crate comes later stands here, and moves unchanged: the writer (`bbt_writer`, `properties`,
-//! `table_parts`), and the reader (`bbt_reader`). The whole file is made in memory and then added to
-//! OUT; a reader keeps all entries in memory.
+//! A part whose crate comes later stands here, and moves unchanged: the writer and the reader. The whole file is made in
+//! memory and then added to OUT; a reader keeps all entries in memory.
+//!
+//! # Where to read
+//!
+//! The files by what they are for, in reading order:
+//!
+//! ```text
+//! the program    program (`run`), words; write_command, produce; call_command, answering; printing
+//! the input      lines, cuts, fields; entry_line, reading; call_line, call_list, call_reading; refusal
+//! the output     reply_line, fault_text
+//! the writer     bbt_options, bbt_writer, properties, table_parts
+//! the reader     bbt_fault, bbt_reader, bbt_reader/opening, block_rows; bbt_reader/calls, block_search, separators,
+//!                list_search
+//! laws           laws, opening_laws
+//! ```
 #![tactic(auto)]
 
 mod answering;

@@ -36,6 +36,8 @@ impl<X> From<DevStop> for Stop<X> {
 }
 
 /// The `len` bytes of the named file from `at` on.
+///
+/// Fails at a miss, where the folder fails, and where memory runs out.
 pub fn draw<F: Folder>(
     alloc: Global,
     files: &mut F,

@@ -13,7 +13,7 @@ pub struct Failed;
 /// Why a call on an object outside stopped.
 #[derive(Clone, Copy, Debug, PartialEq, Eq)]
 pub enum DevStop {
-    /// The object failed, and counted it.
+    /// The object failed, and counted it; or a folder missed, and counted nothing.
     Failed,
     /// Memory ran out.
     Memory,

@@ -20,10 +20,10 @@
 //! passes the end of the file. It answers [`Failed`] and needs no fault. Every other `Failed` comes only where
 //! the count of faults rose in the call, or stands at its last value.
 //!
-//! # The layout of a stored block
+//! # Layout of a stored block
 //!
-//! A file keeps a block with a trailer of five bytes, and a handle says where: its offset, and its size without
-//! the trailer.
+//! A file keeps a block with a trailer of five bytes; both together are a stored block, or a frame. A handle says where
+//! it stands: its offset, and its size without the trailer.
 //!
 //! ```text
 //! +---------------------+-----------+--------------------------------------+
@@ -34,7 +34,7 @@
 //! |<-------- crc32c over these ---->|
 //! ```
 //!
-//! # An example
+//! # Example
 //!
 //! The data block of the one entry with user key `a`, sequence number 1 and value `x` has 21 bytes. It stands at the
 //! front of its file, so its handle is offset 0, size 21, and it takes 26 bytes there:
@@ -47,7 +47,7 @@
 //! 22  84 dd 88 74                              0x7488dd84, the masked CRC32C of the 22 bytes before it
 //! ```
 //!
-//! # What is promised
+//! # Promises
 //!
 //! - After an Ok each call did exactly what it says to what is told. After an error an `add`, a `patch` and a
 //!   `put` did it with a prefix of the piece, and a `begin` did it or left the file. No call changes another

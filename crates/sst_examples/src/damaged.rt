@@ -2,8 +2,8 @@
 //!
 //! Each row of a table is a file in pieces of hex digits, and what is printed behind `damage`. Most come of the file of
 //! the line `61 1 P 78` without properties, which has 119 bytes: the data block of 21 bytes is at 0, the index of 22 at
-//! 26, the metaindex of 8 at 53, each with a trailer of 5, and the footer is at 66. The faults are worked by hand from the layout. Where a
-//! block is changed its checksum was made anew, by an independent program.
+//! 26, the metaindex of 8 at 53, each with a trailer of 5, and the footer is at 66. The faults are worked by hand from the
+//! layout. Where a block is changed its checksum was made anew, by an independent program.
 //!
 //! RocksDB: `Footer::DecodeFrom` in table/format.cc and `BlockFetcher` in table/block_fetcher.cc.
 use crate::worked_run::{NAME, answered, holds, other_is_as_it_was, printed, put_hex};

@@ -17,7 +17,7 @@
 //! The command `write`:
 //!
 //! - [`one_block`]: one line written as one block.
-//! - [`lists`]: any list within the limits written as one block, and each refusal by its name.
+//! - [`lists`]: lists written as one block, and each refusal by its name.
 //! - [`block_option`]: the option for the size of data blocks, and words that are none.
 //! - [`many_blocks`]: lists written as many data blocks, and answered from.
 //!
@@ -37,6 +37,9 @@
 //! - [`damaged_many`]: files of two data blocks with one that is at fault.
 //! - [`damaged_large`]: blocks and keys past their limits. These files take a gigabyte of memory.
 //! - [`long_file`]: a file past its limit, which is said and not made.
+//!
+//! What the tests share: [`worked_run`], a run of the program; [`written_file`], the end of a file that was written;
+//! [`named_file`], files with chosen properties or names in the metaindex.
 #![tactic(auto)]
 
 #[cfg(test)]

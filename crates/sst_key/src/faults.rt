@@ -1,4 +1,4 @@
-/// Why a writer refuses an entry. The causes are checked in this order.
+/// Why a writer refuses an entry. The causes are checked in this order. The last three are not given yet.
 #[derive(Clone, Copy, Debug, PartialEq, Eq)]
 pub enum WriteFault {
     /// The entry isn't after the entry before it.

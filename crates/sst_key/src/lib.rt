@@ -15,6 +15,9 @@
 //!
 //! The kinds' numbers are 0 (Deletion), 1 (Value), 2 (Merge) and 7 (SingleDeletion).
 //!
+//! A stored key is any key of at least eight bytes in such a place: its last eight are its tag, whatever kind they say.
+//! Data blocks have stored keys that are internal keys; the separators of an index need not be.
+//!
 //! Entries are ordered by their user keys, bytewise. Among equal user keys the greater tag comes first, and so
 //! the newer entry before the older.
 //!

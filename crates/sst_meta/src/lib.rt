@@ -36,7 +36,19 @@
 //!
 //! RocksDB: `PropertyBlockBuilder` in table/meta_blocks.cc, and the wiki page "Rocksdb BlockBasedTable Format".
 //!
-//! # An example
+//! # Example
+//!
+//! The footer of a file whose metaindex of 32 bytes stands at 312, and whose index of 22 bytes at 26:
+//!
+//! ```text
+//! at  bytes                                   what they are
+//!  0  01                                      the checksum type: masked CRC32C
+//!  1  B8 02 20                                the metaindex: at 312, which is 56 + 2 * 128, 32 bytes
+//!  4  1A 16                                   the index: at 26, 22 bytes
+//!  6  00 .. 00                                35 zeros, up to byte 41
+//! 41  02 00 00 00                             version 2
+//! 45  F7 CF F4 85 B7 41 E2 88                 the magic number
+//! ```
 //!
 //! The block that says of a table that it has one data block and 17 entries:
 //!
@@ -57,7 +69,7 @@
 //! 42  01 00 00 00                             there is one restart
 //! ```
 //!
-//! # What is promised
+//! # Promises
 //!
 //! [`read_footer`] answers what the end of a file says, exactly, or the first thing that is wrong with it (`footer_read`,
 //! specs/FooterReading.antt); [`put_footer`] appends the bytes of a footer (`footer_spelling`, specs/Footer.antt); and

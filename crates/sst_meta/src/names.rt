@@ -1,4 +1,4 @@
-//! The names of the blocks and properties that are written or looked at, as RocksDB has them.
+//! The names of the blocks and properties that are written or looked at, now or later, as RocksDB has them.
 //!
 //! A varint64 and a fixed32 are numbers as `sst_num` puts them.
 
@@ -13,7 +13,7 @@ pub const RANGE_DEL: &[u8] = b"rocksdb.range_del";
 pub const INDEX_TYPE: &[u8] = b"rocksdb.block.based.table.index.type";
 
 /// The name of the order of user keys. RocksDB: `TablePropertiesNames::kComparator` in table/table_properties.cc, as of
-/// all that follow.
+/// all that follow and name no other file.
 pub const COMPARATOR: &[u8] = b"rocksdb.comparator";
 
 /// The bytes of all data blocks with their trailers, a varint64. RocksDB: `kDataSize`.
@@ -30,7 +30,8 @@ pub const EXTERNAL_VERSION: &[u8] = b"rocksdb.external_sst_file.version";
 /// The bytes of all filter blocks with their trailers, a varint64. RocksDB: `kFilterSize`.
 pub const FILTER_SIZE: &[u8] = b"rocksdb.filter.size";
 
-/// The length of each key in a table whose keys have one length, else 0, a varint64. RocksDB: `kFixedKeyLen`.
+/// The length of each key in a table whose keys have one length, else 0, a varint64. Not used yet. RocksDB:
+/// `kFixedKeyLen`.
 pub const FIXED_KEY_LENGTH: &[u8] = b"rocksdb.fixed.key.length";
 
 /// The version of the table's format, a varint64. RocksDB: `kFormatVersion`.

@@ -49,6 +49,9 @@
 //! - A fixed number that fits its bytes is read back from them ([`fixed_reads_back`]); [`fixed16`],
 //!   [`fixed32`] and [`fixed64`] read one from the front of a slice that is long enough.
 //!
+//! - [`Bytes`] is a list of bytes that owns its memory. [`Memory`] says that memory ran out; [`Refused`] that, or for which
+//!   cause the arguments were refused; [`Stop`] that, or what is wrong with a file, or that the device failed.
+//!
 //! RocksDB also takes a varint that is longer than it need be. Here it is refused.
 //!
 //! RocksDB: util/coding.h and util/coding_lean.h; table/format.h (`BlockHandle`); the wiki page "Rocksdb

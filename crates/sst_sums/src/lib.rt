@@ -14,7 +14,8 @@
 //! ```
 //!
 //! The CRC32C is the remainder by the polynomial 0x1EDC6F41 (Castagnoli), bits of a byte lowest
-//! first, started as all ones and inverted at the end. A file never keeps it as it is, since the
+//! first, started as all ones and inverted at the end. With the lowest bit first the polynomial is
+//! turned round too: the definition has it as 0x82F63B78. A file never keeps the CRC as it is, since the
 //! CRC of bytes that have their own CRC among them tells little. It keeps the masked form: turned
 //! right by 15 bits, plus 0xa282ead8, in 32 bits.
 //!

@@ -172,7 +172,7 @@ impl BbtReader {
         reply(c.place)
     }
 
-    /// Goes to the first entry at or after the target, by the way of the index: to nowhere where the separator is before
+    /// Goes to the first entry at or after the target, by the way of the index: to nowhere where every separator is before
     /// the target.
     ///
     /// RocksDB: `BlockBasedTableIterator::Seek` in table/block_based/block_based_table_iterator.cc.
@@ -184,8 +184,8 @@ impl BbtReader {
         reply(c.place)
     }
 
-    /// Goes to the last entry at or before the target, by the way of the index: to the last of all where the separator is
-    /// before the target.
+    /// Goes to the last entry at or before the target, by the way of the index: to the last of all where every separator
+    /// is before the target.
     ///
     /// RocksDB: `BlockBasedTableIterator::SeekForPrev` in table/block_based/block_based_table_iterator.cc.
     pub fn seek_for_prev(&self, c: &mut Cursor, user: &[u8], seq: u64) -> Reply

@@ -4,7 +4,6 @@ use Rattle.sst_device.proofs.Pieces.{OnErr-always}
 use Rattle.sst_cli.proofs.AnswersPrinted.{begun, puts, is_prefix, is_prefix_cut, ended, ended_cut, next_call}
 use Rattle.sst_cli.proofs.answering.print_answers.Goals as goal
 
--- src/answering.rt:129:5
 pub loop-done-init : goal.loop-done-init
 loop-done-init g c = record {
   within = omega arith;
@@ -13,13 +12,11 @@ loop-done-init g c = record {
   counts = omega arith;
 }
 
--- src/answering.rt:130:9
 pub returns-in_err-put_answer-clause-err : goal.returns-in_err-put_answer-clause-err
 returns-in_err-put_answer-clause-err g c =
     let found = is_prefix (blocks_of c.args.reader.now) c.args.calls.now _ _ c.loop-done.text.items c.loop-done.position _ c.loop-done.invariant.printing in
     OnErr-always _ _ found
 
--- src/answering.rt:131:9
 pub returns-in_err-print_waiting-clause-err : goal.returns-in_err-print_waiting-clause-err
 returns-in_err-print_waiting-clause-err g c =
     let next = next_call (blocks_of c.args.reader.now) c.args.calls.now _ _ c.loop-done.text.items c.put_answer.new.text.items c.loop-done.position c.put_answer.new.position c.loop-done.done c.index-calls-done.result
@@ -28,7 +25,6 @@ returns-in_err-print_waiting-clause-err g c =
     let found = is_prefix_cut (blocks_of c.args.reader.now) c.args.calls.now _ _ _ c.put_answer.new.text.items c.put_answer.new.position _ cut.0 cut.1 next in
     OnErr-always _ _ found
 
--- src/answering.rt:129:5
 pub loop-done-preserved : goal.loop-done-preserved
 loop-done-preserved g c =
     let next = next_call (blocks_of c.args.reader.now) c.args.calls.now _ _ c.loop-done.text.items c.put_answer.new.text.items c.loop-done.position c.put_answer.new.position c.loop-done.done c.index-calls-done.result
@@ -41,13 +37,11 @@ loop-done-preserved g c =
       counts = grind arith;
     }
 
--- src/answering.rt:114:1
 pub returns-clause-all : goal.returns-clause-all
 returns-clause-all g c =
     ended c.print_waiting-2.result (blocks_of c.args.reader.now) c.args.calls.now _ _ _ c.loop-done.text.items c.print_waiting-2.new.text.items c.loop-done.position c.loop-done.done
     c.loop-done-test.false c.print_waiting-2.ensures.ok c.print_waiting-2.ensures.all c.loop-done.invariant.printing
 
--- src/answering.rt:114:1
 pub returns-clause-err : goal.returns-clause-err
 returns-clause-err g c =
     ended_cut c.print_waiting-2.result (blocks_of c.args.reader.now) c.args.calls.now _ _ _ c.loop-done.text.items c.loop-done.position _ c.print_waiting-2.ensures.err c.loop-done.invariant.printing

@@ -10,7 +10,6 @@ use Rattle.sst_cli.proofs.CallsPrinted.{answered, file_text_is, some_answers_tex
 use Rattle.sst_cli.proofs.PrintedTexts.{some_printed, none_printed}
 use Rattle.sst_cli.proofs.call_command.answer_calls.Goals as goal
 
--- src/call_command.rt:57:1
 pub returns-in-Ok-clause-told : goal.returns-in-Ok-clause-told
 returns-in-Ok-clause-told g c = λ file held.
     let blocks = blocks_of c.in-Ok.reader in
@@ -18,7 +17,6 @@ returns-in-Ok-clause-told g c = λ file held.
     answered c.print_all.result (Ok (row_blocks_of blocks)) (blocks_read file) c.args.calls.now (way_text blocks c.args.calls.now) (g.O.Sink.written c.args.out.now) (g.O.Sink.written c.print_all.new.out) (g.O.Sink.faults c.args.out.now) (g.O.Sink.faults c.print_all.new.out)
     c.print_all.ensures.printed (blocks, seqs, refl, refl) (sym (c.in-Ok.ensures.told file held))
 
--- src/call_command.rt:57:1
 pub returns-in-Ok-clause-printed : goal.returns-in-Ok-clause-printed
 returns-in-Ok-clause-printed g c =
     let text = way_text (blocks_of c.in-Ok.reader) c.args.calls.now in
@@ -28,7 +26,6 @@ returns-in-Ok-clause-printed g c =
       some_printed _ _ text (g.O.Sink.written c.args.out.now) (g.O.Sink.written c.print_all.new.out) (g.O.Sink.faults c.args.out.now) (g.O.Sink.faults c.print_all.new.out) c.print_all.ensures.printed,
     )
 
--- src/call_command.rt:57:1
 pub returns-in-Err-Damage-clause-printed : goal.returns-in-Err-Damage-clause-printed
 returns-in-Err-Damage-clause-printed g c =
     let text = fault_text c.in-Err-Damage.fault in
@@ -39,13 +36,11 @@ returns-in-Err-Damage-clause-printed g c =
       some_printed _ _ text (g.O.Sink.written c.args.out.now) (g.O.Sink.written c.print_fault.new.out) (g.O.Sink.faults c.args.out.now) (g.O.Sink.faults c.print_fault.new.out) c.print_fault.ensures.printed,
     )
 
--- src/call_command.rt:57:1
 pub returns-in-Err-Device-clause-printed : goal.returns-in-Err-Device-clause-printed
 returns-in-Err-Device-clause-printed g c =
     let some = some_answers_text (file_of (g.F.Folder.held c.args.files.now) c.args.name.now) c.args.calls.now in
     (some.0, some.1, none_printed _ some.0 (g.O.Sink.written c.args.out.now) (inl refl))
 
--- src/call_command.rt:57:1
 pub returns-in-Err-Memory-clause-printed : goal.returns-in-Err-Memory-clause-printed
 returns-in-Err-Memory-clause-printed g c =
     let some = some_answers_text (file_of (g.F.Folder.held c.args.files.now) c.args.name.now) c.args.calls.now in

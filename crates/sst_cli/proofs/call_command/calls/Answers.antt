@@ -5,14 +5,12 @@ use Rattle.sst_cli.proofs.CallsPrinted.{input_text_is, some_calls_text}
 use Rattle.sst_cli.proofs.PrintedTexts.{some_printed, none_printed}
 use Rattle.sst_cli.proofs.call_command.calls.Goals as goal
 
--- src/call_command.rt:85:1
 pub returns-in-Ok-clause-printed : goal.returns-in-Ok-clause-printed
 returns-in-Ok-clause-printed g c =
     let printed = rw c.as_slice.ensures at c.answer_calls.ensures.printed in
     let file = file_of (g.F.Folder.held c.args.files.now) c.args.name.now in
     (printed.0, input_text_is file (g.I.Intake.left c.args.input.now) (Ok c.in-Ok.calls) printed.0 (λ text told. (c.in-Ok.ensures.ok text told).0) printed.1, printed.2)
 
--- src/call_command.rt:85:1
 pub returns-in-Err-Refused-clause-printed : goal.returns-in-Err-Refused-clause-printed
 returns-in-Err-Refused-clause-printed g c =
     let refusal = c.in-Err-Refused.refusal in
@@ -23,7 +21,6 @@ returns-in-Err-Refused-clause-printed g c =
       some_printed _ _ (refusal_text refusal) (g.O.Sink.written c.args.out.now) (g.O.Sink.written c.print_refusal.new.out) (g.O.Sink.faults c.args.out.now) (g.O.Sink.faults c.print_refusal.new.out) c.print_refusal.ensures.printed,
     )
 
--- src/call_command.rt:85:1
 pub returns-in-Err-Device-clause-printed : goal.returns-in-Err-Device-clause-printed
 returns-in-Err-Device-clause-printed g c =
     let some = some_calls_text (file_of (g.F.Folder.held c.args.files.now) c.args.name.now) (g.I.Intake.left c.args.input.now) in

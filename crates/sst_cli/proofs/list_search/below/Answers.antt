@@ -4,7 +4,6 @@ use Rattle.sst_key.specs.ListMachine.{is_before_target}
 use Rattle.sst_cli.proofs.ListSearch.{before-parted, before-count}
 use Rattle.sst_cli.proofs.list_search.below.Goals as goal
 
--- src/list_search.rt:10:1
 pub returns : goal.returns
 returns c =
     let parted = before-parted c.args.user.now c.args.seq c.args.entries.now c.requires in

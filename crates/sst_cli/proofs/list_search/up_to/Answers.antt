@@ -4,7 +4,6 @@ use Rattle.sst_key.specs.ListMachine.{is_up_to_target}
 use Rattle.sst_cli.proofs.ListSearch.{up_to-parted, up_to-count}
 use Rattle.sst_cli.proofs.list_search.up_to.Goals as goal
 
--- src/list_search.rt:10:1
 pub returns : goal.returns
 returns c =
     let parted = up_to-parted c.args.user.now c.args.seq c.args.entries.now c.requires in
