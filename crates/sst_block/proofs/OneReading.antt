@@ -65,7 +65,7 @@ one-list Entries bytes a b left right = plain-one Entries bytes a b tt left righ
 one-list Names bytes a b left right = plain-one Names bytes a b tt left right
 one-list (Index false false) bytes a b left right = plain-one (Index false false) bytes a b tt left right
 one-list (Index false true) bytes a b left right =
-    let plain = λ (rows : List Row). block-as (Index false true) (Index false false) bytes rows (λ a b. refl) (λ row is. is) in
+    let plain = λ (rows : List Row). block-as (Index false true) (Index false false) bytes rows (λ a b. refl) (λ row is. (is.0, absurd is.1)) in
     plain-one (Index false false) bytes a b tt (plain a left) (plain b right)
 one-list (Index true delta) bytes a b left right =
     let plain = λ (rows : List Row). block-as (Index true delta) Names bytes rows (λ a b. refl) (λ row is. (is.0, tt)) in

@@ -75,12 +75,14 @@ IsInternalKey key = (user : List ℕ) × (seq : ℕ) × (kind : Kind) × (seq < 
 abbrev pub IsHandle : List ℕ → Type 0
 IsHandle value = (h : Handle) × (h.offset < 2 ^ 64) × (h.size < 2 ^ 64) × (value ≡ handle_spelling h)
 
--- the row has the form: its key, and its value where the form says something of it
+-- the row has the form: its key, and its value where the form says something of it. Rows of index blocks with
+-- differences of handles are spelled in another way, and aren't said yet: no row has that form.
 abbrev pub HasForm : RowForm → Row → Type 0
 HasForm Entries row = IsInternalKey row.key
 HasForm Names row = Unit {0}
-HasForm (Index true delta) row = IsHandle row.value
-HasForm (Index false delta) row = (8 ≤ length row.key) × IsHandle row.value
+HasForm (Index true false) row = IsHandle row.value
+HasForm (Index false false) row = (8 ≤ length row.key) × IsHandle row.value
+HasForm (Index user_key true) row = ⊥
 
 -- the row may stand in a block: a stored key has at most 65,544 bytes
 abbrev pub IsRow : RowForm → Row → Type 0

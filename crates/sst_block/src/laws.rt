@@ -32,11 +32,12 @@ pub fn reading_finds_exactly_the_rows()
 
 /// A block has one list of rows at most, whatever its form, and has none exactly where it reads as a fault.
 ///
-/// `one`: the same bytes don't stand for two lists of rows. `none`: bytes that read as a fault stand for no rows.
+/// `one`: the same bytes don't stand for two lists of rows. `short`: they are at most 2^29. `none`: bytes that read as a fault stand for no rows.
 /// `fault`: bytes that stand for no rows read as a fault, if they are at most 2^29. RocksDB: the layout at the top of
 /// table/block_based/block_builder.cc, and `DecodeEntry` in table/block_based/block_util.h.
 pub fn a_block_has_one_list_of_rows()
     ensures one { (form : RowForm) (bytes : List ℕ) (a b : List Row) → Block form bytes a → Block form bytes b → a ≡ b }
+    ensures short { (form : RowForm) (bytes : List ℕ) (rows : List Row) → Block form bytes rows → length bytes ≤ 2 ^ 29 }
     ensures none { (form : RowForm) (bytes : List ℕ) (fault : BlockFault) (rows : List Row) → HasNoFlags form
         → block_read form bytes ≡ Err fault → Block form bytes rows → ⊥ }
     ensures fault { (form : RowForm) (bytes : List ℕ) → HasNoFlags form → length bytes ≤ 2 ^ 29

@@ -1,13 +1,14 @@
 -- What one call on a folder makes of what another left.
-use Rattle.std.proofs.Common.{◌≡◌, ◌⊎◌, ℕ, ◌≤◌, List, [], ◌++◌, length, Bool, false, cond, IsTrue, Option, None, Some, refl, sym, ap, ◌∙◌, inl, inr, arith}
-use Rattle.std.specs.Ordering.{is_eq}
-use Rattle.std.specs.Cmp.Lexicographic.{nat_list_cmp_total}
+use Rattle.std.proofs.Common.{◌≡◌, ◌⊎◌, ℕ, ◌≤◌, List, [], ◌++◌, length, Bool, true, false, cond, IsTrue, Option, None, Some, refl, sym, ap, ◌∙◌, inl, inr, arith}
+use Rattle.std.specs.Option.{option_map}
+use Rattle.std.specs.Ordering.{is_eq, eq_by_cmp, nat_cmp}
+use Rattle.std.specs.Cmp.Lexicographic.{slice_cmp, nat_list_cmp_total}
 use Rattle.std.specs.FinMap.{get, insert, get-insert}
 use Rattle.std.proofs.lemmas.Bool.{le-ltb, false≢true}
 use Rattle.sst_key.proofs.KeyParts.{slice_cmp-same}
-use Rattle.sst_device.specs.Folder.{Files, put_file, edit_file, changed_file, misses, ends_before}
+use Rattle.sst_device.specs.Folder.{Files, file_of, put_file, edit_file, changed_file, misses, ends_before}
 use Rattle.sst_device.specs.Faults.{Rose}
-use Rattle.sst_device.proofs.Maps.{insert-insert}
+use Rattle.sst_device.proofs.Maps.{insert-insert, same_name}
 
 -- the file that was put is there
 get-put : (files : Files) (name bytes : List ℕ) → get (insert files name bytes) name ≡ Some bytes
@@ -42,3 +43,43 @@ append_cause old mid name before then_ now begun counts (inl missed) =
     let none = ap (λ (held : Option Files). misses held name 0) begun ∙ misses-put_file old name [] in
     absurd (false≢true (sym none ∙ missed))
 append_cause old mid name before then_ now begun counts (inr rose) = omega (arith, rose)
+
+not-true : (r : Bool) → (r ≡ true → ⊥) → r ≡ false
+not-true true never = absurd (never refl)
+not-true false never = refl
+
+-- the bytes of another file than the one that was put
+get-other : (files : Files) (name other bytes : List ℕ) → (name ≡ other → ⊥) → get (insert files name bytes) other ≡ get files other
+get-other files name other bytes differ =
+    let another = not-true (eq_by_cmp (slice_cmp nat_cmp) other name) (λ same. differ (sym (same_name other name same))) in
+    get-insert nat_list_cmp_total files name bytes other ∙ ap (λ (r : Bool). cond r (Some bytes) (get files other)) another
+
+-- the named file has the bytes that were put, or what was done to its bytes
+pub put-there : (files : Files) (name bytes : List ℕ) → file_of (put_file (Some files) name bytes) name ≡ Some bytes
+put-there files name bytes = get-put files name bytes
+
+edit-of : (files : Files) (name : List ℕ) (change : List ℕ → List ℕ) (found : Option (List ℕ)) → get files name ≡ found
+    → get (changed_file files name change found) name ≡ option_map change found
+edit-of files name change None is = is
+edit-of files name change (Some bytes) is = get-put files name (change bytes)
+
+pub edit-there : (held : Option Files) (name : List ℕ) (change : List ℕ → List ℕ)
+    → file_of (edit_file held name change) name ≡ option_map change (file_of held name)
+edit-there None name change = refl
+edit-there (Some files) name change = edit-of files name change (get files name) refl
+
+-- each other file is as it was
+pub put-no-other : (held : Option Files) (name other bytes : List ℕ) → (name ≡ other → ⊥)
+    → file_of (put_file held name bytes) other ≡ file_of held other
+put-no-other None name other bytes differ = refl
+put-no-other (Some files) name other bytes differ = get-other files name other bytes differ
+
+edit-of-other : (files : Files) (name other : List ℕ) (change : List ℕ → List ℕ) (found : Option (List ℕ)) → (name ≡ other → ⊥)
+    → get (changed_file files name change found) other ≡ get files other
+edit-of-other files name other change None differ = refl
+edit-of-other files name other change (Some bytes) differ = get-other files name other (change bytes) differ
+
+pub edit-no-other : (held : Option Files) (name other : List ℕ) (change : List ℕ → List ℕ) → (name ≡ other → ⊥)
+    → file_of (edit_file held name change) other ≡ file_of held other
+edit-no-other None name other change differ = refl
+edit-no-other (Some files) name other change differ = edit-of-other files name other change (get files name) differ

@@ -91,7 +91,10 @@ mod tests;
 pub use drawing::{draw, draw_framed};
 pub use folder::{DevStop, Failed, Folder};
 pub use frame::{FrameFault, put_frame};
-pub use laws::{a_frame_fault_is_the_first, a_stored_block_is_read, frame_is_framed};
+pub use laws::{
+    a_block_without_a_trailer_is_bare, a_frame_fault_is_the_first, a_stored_block_is_read,
+    frame_is_framed, one_file_changes,
+};
 pub use memory::{MemFolder, MemIntake, MemSink};
 pub use real::{DiskFolder, StdIntake, StdSink};
 pub use stream::{Intake, Sink, put_all};

@@ -1,7 +1,7 @@
 //! Tests of the objects outside: each real one once, and what the failing calls of those in memory do.
 use crate::folder::{DevStop, Failed, Folder};
 use crate::frame::put_frame;
-use crate::laws::frame_is_framed;
+use crate::laws::{a_block_without_a_trailer_is_bare, frame_is_framed, one_file_changes};
 use crate::memory::{MemFolder, MemIntake, MemSink};
 use crate::real::{DiskFolder, StdIntake, StdSink};
 use crate::stream::{Intake, Sink, put_all};
@@ -75,6 +75,7 @@ fn a_folder_in_memory(rt: HostRuntime) -> Result<(), Fail> {
     assert!(rt; holds(&folder, OTHER, b"abc"));
     assert!(rt; holds(&folder, "three", b""));
     assert!(rt; folder.file("four").is_none());
+    one_file_changes();
     Ok(())
 }
 
@@ -139,5 +140,6 @@ fn an_empty_block(rt: HostRuntime) -> Result<(), Fail> {
         [7, 0, 0, 0, 0, 1, 0, 0, 0, 0, 0xc0, 0xf2, 0xa1, 0xb0].as_slice()
     );
     frame_is_framed();
+    a_block_without_a_trailer_is_bare();
     Ok(())
 }
