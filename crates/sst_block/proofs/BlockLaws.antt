@@ -13,7 +13,7 @@ pub row_spelling-some : (s : Spelled) → 0 < length (row_spelling s)
 row_spelling-some s = omega (arith, varint-some s.shared, length-append {A = ℕ})
 
 -- the rows that are spelled are those that were given
-chosen-rows : (interval i : ℕ) (before : List ℕ) (rows : List Row) → map (λ (s : Spelled). s.row) (chosen interval i before rows) ≡ rows
+pub chosen-rows : (interval i : ℕ) (before : List ℕ) (rows : List Row) → map (λ (s : Spelled). s.row) (chosen interval i before rows) ≡ rows
 chosen-rows interval i before [] = refl
 chosen-rows interval i before (row ∷ rows) = ap (λ (rest : List Row). row ∷ rest) (chosen-rows interval (i + 1) row.key rows)
 

@@ -1,4 +1,5 @@
 pub mod BlockLaws
+pub mod Groups
 pub mod FaultyRows
 pub mod FirstFaults
 pub mod Follows

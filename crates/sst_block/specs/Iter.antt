@@ -1,14 +1,9 @@
 -- What a walk over the rows of a block knows: which rows there are, and where it stands.
 -- RocksDB: DataBlockIter and IndexBlockIter in table/block_based/block.h; of their calls SeekToFirst, Next, key and value.
 use Rattle.std.specs.Prelude.{◌≡◌, ℕ, ◌+◌, true, false, nat_lt, if◌then◌else◌, List, [], ◌∷◌, length, drop, Option, None, Some, slice_get}
-use Rattle.sst_block.specs.declared.row_form.RowForm.{RowForm}
 use Rattle.sst_block.specs.declared.iter.BlockIter.{BlockIter}
 use Rattle.sst_block.specs.Block.{Row, Spelled}
-use Rattle.sst_block.specs.Reading.{Reads, row_at}
-
--- the block reads as the rows; in a form without flags one of at most 2 ^ 29 bytes then stands for them (`Block`)
-abbrev pub StandsFor : RowForm → List ℕ → List Row → Type 0
-StandsFor form block rows = Reads form block rows
+use Rattle.sst_block.specs.Reading.{row_at}
 
 -- the bytes are these rows, one behind the other; `before` is the key before the first
 abbrev pub AreRows : List ℕ → List ℕ → List Row → Type 0

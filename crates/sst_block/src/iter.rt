@@ -1,6 +1,7 @@
 ghost use Rattle.std.specs.Prelude.{◌≡◌, ℕ, ◌+◌, nat_lt, true, false, List, [], ◌∷◌, length, Option, None, Some, slice_get};
 ghost use Rattle.sst_block.specs.Block.{Row};
-ghost use Rattle.sst_block.specs.Iter.{StandsFor, AreRows, Shows, Walks, place_of};
+ghost use Rattle.sst_block.specs.Reading.{Reads};
+ghost use Rattle.sst_block.specs.Iter.{AreRows, Shows, Walks, place_of};
 
 use crate::check::rows_of;
 use crate::row::{row_lengths, split_row};
@@ -31,8 +32,8 @@ impl<'b> BlockIter<'b> {
     ///
     /// The block is one that `check_block` accepts in this form. `room` is room for the keys.
     pub fn start(block: &'b [u8], form: RowForm, room: KeyRoom) -> BlockIter<'b>
-        requires { (rows : List Row) × StandsFor form block.now rows }
-        ensures { (rows : List Row) → StandsFor form block.now rows → Walks result rows None }
+        requires { (rows : List Row) × Reads form block.now rows }
+        ensures { (rows : List Row) → Reads form block.now rows → Walks result rows None }
     {
         let _ = form;
         let rows = rows_of(block);

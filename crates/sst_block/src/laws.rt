@@ -1,7 +1,7 @@
-ghost use Rattle.std.specs.Prelude.{◌≡◌, ℕ, ◌<◌, ◌≤◌, ◌^◌, List, length, All, Err};
-ghost use Rattle.sst_block.specs.Block.{Row, Block, IsRow, AreOrdered};
+ghost use Rattle.std.specs.Prelude.{◌≡◌, ℕ, ◌+◌, ◌%◌, ◌<◌, ◌≤◌, ◌^◌, List, [], length, map, slice_get, All, Some, Err};
+ghost use Rattle.sst_block.specs.Block.{Row, Spelled, Block, IsRow, AreOrdered, common};
 ghost use Rattle.sst_block.specs.Builder.{HasNoFlags};
-ghost use Rattle.sst_block.specs.Chosen.{block_of};
+ghost use Rattle.sst_block.specs.Chosen.{block_of, chosen};
 ghost use Rattle.sst_block.specs.FirstFault.{IsFirstFault};
 ghost use Rattle.sst_block.specs.Reading.{block_read, Reads};
 ghost use Rattle.sst_block.specs.declared.fault.BlockFault.{BlockFault};
@@ -15,6 +15,20 @@ pub fn chosen_block_stands_for_its_rows()
     ensures { (form : RowForm) (interval : ℕ) (rows : List Row) → 0 < interval → All (IsRow form) rows
         → AreOrdered form rows → length (block_of interval rows) ≤ 2 ^ 29
         → Block form (block_of interval rows) rows }
+{}
+
+/// Which rows of a chosen block are spelled whole.
+///
+/// `rows`: the rows are spelled in their order. `whole`: each `interval`-th row shares nothing, the first of all too.
+/// `shared`: each other row leaves to the row before all that the two keys have in common.
+/// RocksDB: `BlockBuilder::Add` in table/block_based/block_builder.cc.
+pub fn each_group_begins_whole()
+    ensures rows { (interval : ℕ) (rows : List Row) → map (λ (s : Spelled). s.row) (chosen interval 0 [] rows) ≡ rows }
+    ensures whole { (interval i : ℕ) (rows : List Row) (s : Spelled) → slice_get (chosen interval 0 [] rows) i ≡ Some s
+        → i % interval ≡ 0 → s.shared ≡ 0 }
+    ensures shared { (interval i : ℕ) (rows : List Row) (before : Row) (s : Spelled) → slice_get rows i ≡ Some before
+        → slice_get (chosen interval 0 [] rows) (i + 1) ≡ Some s → ((i + 1) % interval ≡ 0 → ⊥)
+        → s.shared ≡ common before.key s.row.key }
 {}
 
 /// Reading a block finds exactly the rows that its bytes stand for.

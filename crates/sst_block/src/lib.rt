@@ -92,7 +92,7 @@ pub use check::check_block;
 pub use fault::BlockFault;
 pub use iter::BlockIter;
 pub use laws::{
-    a_block_has_one_list_of_rows, chosen_block_stands_for_its_rows, first_fault_is_first,
-    reading_finds_exactly_the_rows,
+    a_block_has_one_list_of_rows, chosen_block_stands_for_its_rows, each_group_begins_whole,
+    first_fault_is_first, reading_finds_exactly_the_rows,
 };
 pub use row_form::RowForm;
