@@ -1,7 +1,7 @@
 -- The first fault of a block, told by the rows and restarts that its bytes spell and not by reading them. Sound rows
 -- stand before a faulty one, and sound rows and restarts before a faulty restart.
 -- RocksDB: the layout at the top of table/block_based/block_builder.cc, and the checks of DecodeEntry in
--- table/block_based/block_util.h. What is refused beyond RocksDB's checks is this project's own.
+-- table/block_based/block.cc. What is refused beyond RocksDB's checks is this project's own.
 use Rattle.std.specs.Prelude.{◌≡◌, ℕ, ◌+◌, ◌*◌, ◌^◌, ◌<◌, ◌≤◌, true, List, [], ◌∷◌, ◌++◌, length, map, All}
 use Rattle.std.specs.List.{flat_map}
 use Rattle.sst_num.specs.Spelling.{fixed}

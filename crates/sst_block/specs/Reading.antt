@@ -1,6 +1,6 @@
 -- What the bytes of a block read as: its rows, or its first fault. The faults come in this order: the footer, which
 -- says how many restarts there are; the rows, one by one; the restarts, one by one.
--- RocksDB: DecodeEntry and CheckAndDecodeEntry in table/block_based/block_util.h and block.cc, Block::NumRestarts in
+-- RocksDB: DecodeEntry and CheckAndDecodeEntry in table/block_based/block.cc, Block::NumRestarts in
 -- table/block_based/block.cc. RocksDB checks less: what more is refused here is this project's own.
 use Rattle.std.specs.Prelude.{◌≡◌, ℕ, zero, suc, ◌+◌, ◌-◌, ◌*◌, ◌==◌, Bool, true, false, not, ◌&&◌, nat_lt, nat_le, nat_eq, if◌then◌else◌, List, [], ◌∷◌, ◌++◌, length, take, drop, map, Option, None, Some, option_and_then, Result, Ok, Err}
 use Rattle.std.specs.List.{list_any}

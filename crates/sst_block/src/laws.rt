@@ -35,7 +35,7 @@ pub fn each_group_begins_whole()
 ///
 /// What a block says is told by joined spellings and never by reading. `complete`: rows that the bytes stand for are
 /// read. `sound`: the bytes stand for rows that are read, if they are at most 2^29. It holds of each form whose keys
-/// are whole and whose handles stand as they are. RocksDB: `DecodeEntry` in table/block_based/block_util.h and
+/// are whole and whose handles stand as they are. RocksDB: `DecodeEntry` and
 /// `Block::NumRestarts` in table/block_based/block.cc.
 pub fn reading_finds_exactly_the_rows()
     ensures complete { (form : RowForm) (bytes : List ℕ) (rows : List Row) → HasNoFlags form
@@ -48,7 +48,7 @@ pub fn reading_finds_exactly_the_rows()
 ///
 /// `one`: the same bytes don't stand for two lists of rows. `short`: they are at most 2^29. `none`: bytes that read as a fault stand for no rows.
 /// `fault`: bytes that stand for no rows read as a fault, if they are at most 2^29. RocksDB: the layout at the top of
-/// table/block_based/block_builder.cc, and `DecodeEntry` in table/block_based/block_util.h.
+/// table/block_based/block_builder.cc, and `DecodeEntry` in table/block_based/block.cc.
 pub fn a_block_has_one_list_of_rows()
     ensures one { (form : RowForm) (bytes : List ℕ) (a b : List Row) → Block form bytes a → Block form bytes b → a ≡ b }
     ensures short { (form : RowForm) (bytes : List ℕ) (rows : List Row) → Block form bytes rows → length bytes ≤ 2 ^ 29 }
@@ -63,7 +63,7 @@ pub fn a_block_has_one_list_of_rows()
 /// What the first fault is, is told by the rows and restarts that the bytes spell: before a faulty row stand sound
 /// rows alone, and before a faulty restart sound rows and restarts. `found`: a fault that is read is the first.
 /// `read`: the first fault is the one that is read, in bytes of at most 2^29. So bytes have one first fault at most.
-/// RocksDB: `DecodeEntry` in table/block_based/block_util.h, which stops at the first row that it can't decode.
+/// RocksDB: `DecodeEntry` in table/block_based/block.cc, which stops at the first row that it can't decode.
 pub fn first_fault_is_first()
     ensures found { (form : RowForm) (bytes : List ℕ) (fault : BlockFault) → HasNoFlags form
         → block_read form bytes ≡ Err fault → IsFirstFault form bytes fault }

@@ -29,7 +29,7 @@ pub struct Lengths {
     pub used: usize,
 }
 
-/// Reads the lengths of the row at the front. RocksDB: `DecodeEntry` in table/block_based/block_util.h.
+/// Reads the lengths of the row at the front. RocksDB: `DecodeEntry` in table/block_based/block.cc.
 #[tactic(auto, unfolding(crate::specs::Reading::lengths_at))]
 fn take_lengths(bytes: &[u8]) -> Option<Lengths>
     ensures exact { spelled_lengths result ≡ lengths_at bytes.now }

@@ -18,7 +18,7 @@ const EACH_ROW: u32 = 1;
 
 /// How many bytes follow a stored block.
 ///
-/// RocksDB: `kBlockTrailerSize` in table/format.h.
+/// RocksDB: `kBlockTrailerSize` in table/block_based/block_based_table_reader.h.
 pub const TRAILER_LENGTH: u64 = 5;
 
 /// The version of the format that is written.

@@ -1,5 +1,6 @@
 -- How a block is stored in a file: the block, and its trailer of five bytes.
--- RocksDB: table/format.h (kBlockTrailerSize), table/format.cc (ComputeBuiltinChecksumWithLastByte), and
+-- RocksDB: BlockBasedTable::kBlockTrailerSize in table/block_based/block_based_table_reader.h,
+-- ComputeBuiltinChecksumWithLastByte in table/format.cc, and
 -- BlockBasedTableBuilder::WriteMaybeCompressedBlock in table/block_based/block_based_table_builder.cc.
 use Rattle.std.specs.Prelude.{◌≡◌, ℕ, ◌+◌, ◌^◌, ◌≤◌, List, [], ◌∷◌, ◌++◌, take, drop}
 use Rattle.sst_num.specs.Spelling.{fixed}

@@ -18,7 +18,7 @@ use std::alloc::Global;
 
 /// How many bytes follow a block: its type byte, and its checksum.
 ///
-/// RocksDB: `kBlockTrailerSize` in table/format.h.
+/// RocksDB: `kBlockTrailerSize` in table/block_based/block_based_table_reader.h.
 const TRAILER_LENGTH: usize = 5;
 
 /// The most bytes of a block that is read.

@@ -70,7 +70,7 @@
 //! A block without a trailer, as plain and cuckoo tables keep their meta blocks, is defined (`Bare`,
 //! specs/Framed.antt), and no call reads one yet.
 //!
-//! RocksDB: table/format.h (`BlockHandle`, `kBlockTrailerSize`), table/format.cc
+//! RocksDB: table/format.h (`BlockHandle`), block_based_table_reader.h (`kBlockTrailerSize`), table/format.cc
 //! (`ComputeBuiltinChecksumWithLastByte`), table/block_fetcher.cc, util/crc32c.h; the folder does the work of
 //! `FileSystem` in include/rocksdb/file_system.h.
 #![tactic(auto)]
