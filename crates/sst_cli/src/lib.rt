@@ -83,7 +83,7 @@
 //!   a list (`read_input`, specs/Reading.antt).
 //! - On each file that stands for a list (`BlockBased`, sst_bbt_spec), each list of calls, given as its lines
 //!   (`calls_text`, specs/CallText.antt), is answered as the list answers (`answer_of`, sst_key); but for the same. On a
-//!   file that opens, but whose separators don't separate, Get, Seek and SeekForPrev go by the index, as RocksDB does
+//!   file that opens, but whose separators don't separate, Get, Seek and SeekForPrev go by the index
 //!   (`way_answer`, sst_bbt_spec). Where the separators separate, the two ways are one (`the_way_is_the_lists` and
 //!   `a_file_that_stands_is_separated`, sst_bbt_spec).
 //! - On each other file the first thing that is wrong is printed (`blocks_read`, specs/Opening.antt), and the file shows it

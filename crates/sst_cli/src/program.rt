@@ -62,8 +62,7 @@ const USAGE: &str = "usage\n";
 /// - `calls FILE`: the input is a list of call lines; each is answered from the list that FILE stands for, in order, as
 ///   from one position. The whole input is read and checked before FILE is opened. No file changes. Where the
 ///   separators in the index of FILE don't separate its data blocks, FILE stands for no list; then Get, Seek and
-///   SeekForPrev go by the index, as RocksDB does, and may miss entries that First and Next show (`way_answer`,
-///   sst_bbt_spec).
+///   SeekForPrev go by the index, and may miss entries that First and Next show (`way_answer`, sst_bbt_spec).
 ///
 /// Lines of text are printed, each with LF at its end. The status that is answered stands for a number:
 ///

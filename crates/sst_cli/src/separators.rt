@@ -24,7 +24,8 @@ fn parts(key: &[u8]) -> (&[u8], u64)
 /// The separator is before the target of a Seek or a Get, which has the greatest tag of its sequence number. What is
 /// too short for a stored key is before none.
 ///
-/// RocksDB: `InternalKeyComparator::Compare` in db/dbformat.h, with `kValueTypeForSeek`.
+/// RocksDB: `InternalKeyComparator::Compare` in db/dbformat.h, with `kValueTypeForSeek`, which is the greatest kind that
+/// it knows; 255 is this project's own, and no kind is greater.
 pub fn is_before_seek(separator: &[u8], user: &[u8], seq: u64) -> bool
     ensures { result ≡ (if nat_lt (length separator.now) 8 then false else is_separator_before user.now (seek_tag seq) separator.now) }
 {

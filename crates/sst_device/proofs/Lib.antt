@@ -2,7 +2,9 @@ pub mod Choices
 pub mod Pieces
 pub mod Maps
 pub mod FolderLaws
+pub mod Plans
 pub mod MemFiles
+pub mod CutShort
 pub mod Frames
 pub mod Trailers
 pub mod FramesRead

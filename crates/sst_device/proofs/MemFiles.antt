@@ -110,6 +110,13 @@ edit-found name files i old new change f same changed =
     ap Some (set-found name files i old new f same ∙ ap (insert (files_of files) name) changed)
     ∙ ap (λ found. Some (changed_file (files_of files) name change found)) (sym (get-found name files i old f))
 
+-- the file found is put in anew with the bytes that it had
+pub kept-found : (name : List ℕ) (files : List MemFile) (i : ℕ) (old new : MemFile) → FoundAt name files i old → string_bytes new.name ≡ string_bytes old.name
+    → new.bytes.items ≡ old.bytes.items → files_of (set files i new) ≡ files_of files
+kept-found name files i old new f same kept =
+    set-found name files i old new f same ∙ ap (insert (files_of files) name) kept
+    ∙ insert-same (files_of files) name old.bytes.items (get-found name files i old f)
+
 -- a file of a new name
 pub push-absent : (name : List ℕ) (files : List MemFile) (file : MemFile) → position (is_named name) files ≡ None → string_bytes file.name ≡ name
     → files_of (files ++ file ∷ []) ≡ insert (files_of files) name file.bytes.items

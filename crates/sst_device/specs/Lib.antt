@@ -1,6 +1,8 @@
 pub mod Folder
 pub mod Faults
+pub mod Plans
 pub mod MemFiles
+pub mod MemPlans
 pub mod Stops
 pub mod Framed
 pub mod FrameReading

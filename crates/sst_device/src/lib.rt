@@ -52,8 +52,9 @@
 //! - After an Ok each call did exactly what it says to what is told. After an error an `add`, a `patch` and a
 //!   `put` did it with a prefix of the piece, and a `begin` did it or left the file. No call changes another
 //!   file, and a read changes none.
-//! - The objects in memory tell all that they hold, and fail at the calls that they are told to. The real ones
-//!   are proved against the same traits, but tell nothing of content.
+//! - The objects in memory tell all that they hold, and fail at the calls that they are told to and at no other but
+//!   a miss and for want of memory ([`Planned`]). The real ones are proved against the same traits, but tell
+//!   nothing of content.
 //! - [`put_all`] puts a whole piece, or a prefix of it and says why.
 //! - [`put_frame`] appends exactly the stored block, and wherever it stands in a file, its handle stands
 //!   for it ([`frame_is_framed`]).
@@ -95,6 +96,6 @@ pub use laws::{
     a_block_without_a_trailer_is_bare, a_frame_fault_is_the_first, a_stored_block_is_read,
     frame_is_framed, one_file_changes,
 };
-pub use memory::{MemFolder, MemIntake, MemSink};
+pub use memory::{MemFolder, MemIntake, MemSink, Planned};
 pub use real::{DiskFolder, StdIntake, StdSink};
 pub use stream::{Intake, Sink, put_all};

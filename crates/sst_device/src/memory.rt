@@ -2,7 +2,9 @@
 mod files;
 mod folder;
 mod plan;
+mod planned;
 mod streams;
 
 pub use folder::MemFolder;
+pub use planned::Planned;
 pub use streams::{MemIntake, MemSink};

@@ -1,8 +1,9 @@
 //! The files of a folder in memory.
-ghost use Rattle.std.specs.Prelude.{◌≡◌, ℕ, ◌+◌, ◌<◌, ◌≤◌, List, ◌++◌, position, length, take, slice_range, IfSome, Some, None, MatchOption, IsTrue, IsErr, OnOk, OnErr};
+ghost use Rattle.std.specs.Prelude.{◌≡◌, ◌≢◌, ◌+◌, ◌<◌, ◌≤◌, List, ◌++◌, position, length, take, slice_range, IfSome, Some, None, MatchOption, Err, OnOk, OnErr};
 ghost use Rattle.std.specs.FinMap.{get, insert};
 ghost use Rattle.sst_device.specs.Folder.{edit_file, misses, written_over};
 ghost use Rattle.sst_device.specs.MemFiles.{files_of, is_named};
+ghost use Rattle.sst_device.specs.Plans.{FailsWhere};
 
 use crate::folder::DevStop;
 use sst_num::Memory;
@@ -64,10 +65,8 @@ pub(crate) fn append(
     requires { count ≤ length piece.now }
     ensures added { OnOk result (Some (files_of files.new.items)
         ≡ edit_file (Some (files_of files.old.items)) name.now (λ bytes. bytes ++ take count piece.now)) }
-    ensures some { (n : ℕ) × (Some (files_of files.new.items)
-        ≡ edit_file (Some (files_of files.old.items)) name.now (λ bytes. bytes ++ take n piece.now)) }
-    ensures miss { IsTrue (misses (Some (files_of files.old.items)) name.now 0) → IsErr result }
-    ensures failed { result ≡ Err DevStop.Failed → IsTrue (misses (Some (files_of files.old.items)) name.now 0) }
+    ensures fails { FailsWhere (misses (Some (files_of files.old.items)) name.now 0) result }
+    ensures kept { OnErr result (files_of files.new.items ≡ files_of files.old.items) }
 {
     match place(files, name) {
         None => Err(DevStop::Failed),
@@ -107,10 +106,9 @@ pub(crate) fn write_over(
     requires { count ≤ length piece.now }
     ensures patched { OnOk result (Some (files_of files.new.items)
         ≡ edit_file (Some (files_of files.old.items)) name.now (written_over at (take count piece.now))) }
-    ensures some { (n : ℕ) × (Some (files_of files.new.items)
-        ≡ edit_file (Some (files_of files.old.items)) name.now (written_over at (take n piece.now))) }
-    ensures miss { IsTrue (misses (Some (files_of files.old.items)) name.now (at + length piece.now)) → IsErr result }
-    ensures failed { OnErr result (IsTrue (misses (Some (files_of files.old.items)) name.now (at + length piece.now))) }
+    ensures fails { FailsWhere (misses (Some (files_of files.old.items)) name.now (at + length piece.now)) result }
+    ensures never { result ≢ Err DevStop.Memory }
+    ensures kept { OnErr result (files_of files.new.items ≡ files_of files.old.items) }
 {
     match place(files, name) {
         None => Err(DevStop::Failed),
@@ -137,8 +135,8 @@ pub(crate) fn copy_from(bytes: &[u8], start: usize, buf: &mut [u8])
 pub(crate) fn read(files: &[MemFile], name: &str, at: u64, buf: &mut [u8]) -> Result<(), DevStop>
     ensures filled { OnOk result (IfSome (get (files_of files.now) name.now)
         (λ bytes. buf.new ≡ slice_range bytes at (at + length buf.old))) }
-    ensures miss { IsTrue (misses (Some (files_of files.now)) name.now (at + length buf.old)) → IsErr result }
-    ensures failed { OnErr result (IsTrue (misses (Some (files_of files.now)) name.now (at + length buf.old))) }
+    ensures fails { FailsWhere (misses (Some (files_of files.now)) name.now (at + length buf.old)) result }
+    ensures never { result ≢ Err DevStop.Memory }
 {
     match bytes_of(files, name) {
         None => Err(DevStop::Failed),

@@ -1,7 +1,8 @@
 //! Which calls of an object in memory fail.
-ghost use Rattle.std.specs.Prelude.{◌≡◌, ◌≤◌, IfOk, eqb, true, if◌then◌else◌};
-ghost use Rattle.std.specs.List.{list_any};
-ghost use Rattle.sst_device.specs.Faults.{Rose, counted};
+ghost use Rattle.std.specs.Prelude.{◌≡◌, ◌≤◌, IfOk, true};
+ghost use Rattle.sst_device.specs.Faults.{Rose};
+ghost use Rattle.sst_device.specs.Plans.{after_call, fails_next, faults_after, planned};
+ghost use Rattle.sst_device.specs.MemPlans.{plan_of};
 
 use crate::counts::raise;
 use sst_num::Memory;
@@ -19,7 +20,8 @@ pub(crate) struct FailPlan {
 impl FailPlan {
     /// A plan by which each call fails whose number is in the list; the first call is number 1.
     pub(crate) fn new(alloc: Global, fail_at: &[u64]) -> Result<FailPlan, Memory>
-        ensures { IfOk result (λ plan. plan.faults ≡ 0) }
+        ensures plan { IfOk result (λ plan. plan_of plan ≡ planned fail_at.now) }
+        ensures faults { IfOk result (λ plan. plan.faults ≡ 0) }
     {
         Ok(FailPlan {
             fail_at: Vec::from_slice(alloc, fail_at)?,
@@ -30,12 +32,11 @@ impl FailPlan {
 
     /// Counts a call, and answers whether it is to fail; one that is to fail is counted as a fault.
     pub(crate) fn fails(&mut self) -> bool
-        ensures same_list { self.new.fail_at.items ≡ self.old.fail_at.items }
-        ensures numbered { self.new.calls ≡ counted self.old.calls 1 }
-        ensures listed { result ≡ list_any (λ number. eqb self.new.calls number) self.old.fail_at.items }
+        ensures call { plan_of self.new ≡ after_call (plan_of self.old) }
+        ensures fails { result ≡ fails_next (plan_of self.old) }
+        ensures faulted { self.new.faults ≡ faults_after (plan_of self.old) self.old.faults }
         ensures rose { result ≡ true → Rose self.old.faults self.new.faults }
         ensures counts { self.old.faults ≤ self.new.faults }
-        ensures faulted { self.new.faults ≡ (if result then counted self.old.faults 1 else self.old.faults) }
     {
         self.calls = self.calls.saturating_add(1);
         let number = self.calls;

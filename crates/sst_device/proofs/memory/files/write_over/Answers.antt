@@ -3,23 +3,18 @@ use Rattle.std.specs.Vec.{with_items}
 use Rattle.sst_device.specs.declared.memory.files.MemFile.{MemFile}
 use Rattle.sst_device.specs.Folder.{written_over}
 use Rattle.sst_device.specs.MemFiles.{is_named}
-use Rattle.sst_device.proofs.MemFiles.{found_at, get-found, get-absent, edit-found, edit-none, ends-absent, ends-short, ends-far, written_over-nil, same_written, refilled}
+use Rattle.sst_device.proofs.MemFiles.{found_at, get-found, get-absent, edit-found, ends-absent, ends-short, ends-far, same_written, refilled}
+use Rattle.sst_device.proofs.Plans.{fails-where, fails-nowhere}
 use Rattle.sst_device.proofs.memory.files.write_over.Goals as goal
 
-pub returns-in-None-clause-failed : goal.returns-in-None-clause-failed
-returns-in-None-clause-failed c = ends-absent _ _
-    (get-absent c.args.name.now c.args.files.now.items (sym (c.in-None.ensures ∙ ap (position (is_named c.args.name.now)) c.deref.ensures.value)))
+pub returns-in-None-clause-fails : goal.returns-in-None-clause-fails
+returns-in-None-clause-fails c = fails-where _ _ (ends-absent _ _
+    (get-absent c.args.name.now c.args.files.now.items (sym (c.in-None.ensures ∙ ap (position (is_named c.args.name.now)) c.deref.ensures.value)))) refl
 
-pub returns-in-None-clause-some : goal.returns-in-None-clause-some
-returns-in-None-clause-some c = (0, edit-none c.args.name.now _ (written_over c.args.at (take 0 c.args.piece.now)) (written_over-nil c.args.at))
-
-pub returns-in-None-range_start-clause-some : goal.returns-in-None-range_start-clause-some
-returns-in-None-range_start-clause-some c = (0, edit-none c.args.name.now _ (written_over c.args.at (take 0 c.args.piece.now)) (written_over-nil c.args.at))
-
-pub returns-in-None-range_start-clause-failed : goal.returns-in-None-range_start-clause-failed
-returns-in-None-range_start-clause-failed c =
+pub returns-in-None-range_start-clause-fails : goal.returns-in-None-range_start-clause-fails
+returns-in-None-range_start-clause-fails c =
     let found = found_at c.args.name.now _ c.args.files.now.items c.in-Some.i c.index.result.now c.in-Some.ensures c.deref.ensures.value c.index.ensures in
-    ends-short _ _ _ (get-found _ _ _ _ found) (omega (arith, c.len.ensures, c.index.result.now.bytes.ok.0, c.in-None-range_start.ensures))
+    fails-where _ _ (ends-short _ _ _ (get-found _ _ _ _ found) (omega (arith, c.len.ensures, c.index.result.now.bytes.ok.0, c.in-None-range_start.ensures))) refl
 
 pub returns-in-Some-range_start-clause-patched : goal.returns-in-Some-range_start-clause-patched
 returns-in-Some-range_start-clause-patched c =
@@ -30,10 +25,8 @@ returns-in-Some-range_start-clause-patched c =
     (c.copy_over.auto.bytes ∙ ap length c.deref_mut.ensures.value)
     ∙ c.copy_over.ensures ∙ same_written _ _ _ _ _ _ c.in-Some-range_start.ensures.0 c.split_at.ensures.front c.deref_mut.ensures.value)
 
-pub returns-in-Some-range_start-clause-some : goal.returns-in-Some-range_start-clause-some
-returns-in-Some-range_start-clause-some c = (c.args.count, returns-in-Some-range_start-clause-patched c)
-
-pub returns-in-Some-range_start-clause-miss : goal.returns-in-Some-range_start-clause-miss
-returns-in-Some-range_start-clause-miss c =
+pub returns-in-Some-range_start-clause-fails : goal.returns-in-Some-range_start-clause-fails
+returns-in-Some-range_start-clause-fails c =
     let found = found_at c.args.name.now _ c.args.files.now.items c.in-Some.i c.index.result.now c.in-Some.ensures c.deref.ensures.value c.index.ensures in
-    λ missed. absurd (ends-far _ _ _ (get-found _ _ _ _ found) (omega (arith, c.len.ensures, c.index.result.now.bytes.ok.0, c.in-Some-range_start.ensures.1)) missed)
+    fails-nowhere _ _ (ends-far _ _ _ (get-found _ _ _ _ found) (omega (arith, c.len.ensures, c.index.result.now.bytes.ok.0, c.in-Some-range_start.ensures.1)))
+    (λ is. absurd cc)
