@@ -12,6 +12,7 @@ use Rattle.sst_block.specs.Block.{Block}
 use Rattle.sst_block.specs.Builder.{last_key}
 use Rattle.sst_block.proofs.BlockLaws.{block_of_is_block}
 use Rattle.sst_device.specs.Framed.{frame_of}
+use Rattle.sst_meta.proofs.FramedParts.{length-frame, framed-at}
 use Rattle.sst_bbt_spec.specs.Rows.{HasSeq, rows_of}
 use Rattle.sst_bbt_spec.specs.Runs.{LeadsTo, Lead, AreSeparated, Runs}
 use Rattle.sst_bbt_spec.specs.Way.{IndexedBlock, joined}
@@ -20,8 +21,7 @@ use Rattle.sst_cli.specs.Written.{IsInLimits, Fits, stored_length, data_part, in
 use Rattle.sst_cli.proofs.FullBlocks.{HaveEntries}
 use Rattle.sst_cli.proofs.ListParts.{last_entry, last_key-entry, last_entry-limits, last-before, keys-less, fits-front, fits-back}
 use Rattle.sst_cli.proofs.Rows.{rows_of-forms, rows_of-ordered}
-use Rattle.sst_cli.proofs.IndexRows.{length-frame, length-data_part, data_block-short}
-use Rattle.sst_cli.proofs.FileParts.{framed-at}
+use Rattle.sst_cli.proofs.IndexRows.{length-data_part, data_block-short}
 
 -- a data block with its separator, which is its last key
 abbrev pub indexed : List Entry → IndexedBlock

@@ -10,9 +10,8 @@ use Rattle.sst_cli.specs.declared.bbt_options.BbtOptions.{BbtOptions}
 use Rattle.sst_cli.specs.declared.properties.Sizes.{Sizes}
 use Rattle.sst_cli.specs.After.{After, cut_by}
 use Rattle.sst_cli.specs.Cut.{Blocks, cut_of, entries_in}
-use Rattle.sst_cli.specs.FileEnd.{end_of}
 use Rattle.sst_cli.specs.Keeps.{Keeps, ended_last, with_room, with_entry}
-use Rattle.sst_cli.specs.Written.{Fits, Written, data_part, index_rows, index_block, sizes_of, end_part, file_of_blocks, table_of}
+use Rattle.sst_cli.specs.Written.{Fits, Written, data_part, index_rows, index_block, sizes_of, end_of, end_part, file_of_blocks, table_of}
 use Rattle.sst_cli.proofs.CutSteps.{cut_of-of, cut_of-steps, blocks-last}
 use Rattle.sst_cli.proofs.IndexRoom.{index-room, data_part-le, weight-both}
 use Rattle.sst_cli.proofs.Rows.{Fits-nil}

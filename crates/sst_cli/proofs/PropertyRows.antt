@@ -11,7 +11,8 @@ use Rattle.sst_meta.specs.declared.builder.PropsBuilder.{PropsBuilder}
 use Rattle.sst_meta.specs.Builder.{Holds, CanSet}
 use Rattle.sst_meta.specs.PropertyNames as property_names
 use Rattle.sst_meta.proofs.Setting.{can_set}
-use Rattle.sst_cli.specs.Written.{property, properties, properties_block}
+use Rattle.sst_meta.specs.Put.{props_for}
+use Rattle.sst_cli.specs.Written.{property, properties}
 use Rattle.sst_cli.specs.NextProperty.{IsNextProperty}
 use Rattle.sst_cli.specs.declared.properties.Sizes.{Sizes}
 
@@ -22,7 +23,7 @@ ordered-front form (a ∷ []) back ordered = tt
 ordered-front form (a ∷ b ∷ rest) back ordered = (ordered.0, ordered-front form (b ∷ rest) back ordered.1)
 
 -- the names of the properties are in bytewise order
-properties-ordered : (sizes : Sizes) → AreOrdered Names (properties sizes)
+pub properties-ordered : (sizes : Sizes) → AreOrdered Names (properties sizes)
 properties-ordered sizes = (refl, (refl, (refl, (refl, (refl, (refl, (refl, (refl, (refl, (refl, (refl, tt)))))))))))
 
 -- a number's property has a value of at most ten bytes
@@ -30,7 +31,7 @@ number-value : (name : List ℕ) (v : ℕ) → length (property name (varint v))
 number-value name v = length-varint v
 
 -- they take at most 1,500 bytes
-properties-room : (sizes : Sizes) → sum_by row_room (properties sizes) ≤ 1500
+pub properties-room : (sizes : Sizes) → sum_by row_room (properties sizes) ≤ 1500
 properties-room sizes =
     omega (
       arith,
@@ -44,8 +45,8 @@ properties-room sizes =
       number-value property_names.raw_value_size sizes.values,
     )
 
-pub properties_block-short : (sizes : Sizes) → length (properties_block sizes) ≤ 1508
-properties_block-short sizes = omega (arith, properties-room sizes, block_of-le 65536 (properties sizes))
+pub properties-short : (sizes : Sizes) → length (props_for (properties sizes)) ≤ 1508
+properties-short sizes = omega (arith, properties-room sizes, block_of-le 65536 (properties sizes))
 
 -- a row that follows others stands behind the front that ends with it
 front-whole : (pairs : List Row) (pair : Row) (rest : List Row) → (pairs ++ pair ∷ []) ++ rest ≡ pairs ++ pair ∷ rest

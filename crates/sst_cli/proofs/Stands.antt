@@ -1,116 +1,68 @@
 -- The file that is written for a list stands for that list.
-use Rattle.std.proofs.Common.{◌≡◌, ℕ, ◌+◌, ◌^◌, ◌<◌, ◌≤◌, List, [], ◌++◌, length, map, refl, sym, ◌∙◌, subst, arith}
-use Rattle.sst_num.specs.declared.block_handle.Handle.{Handle}
+use Rattle.std.proofs.Common.{◌≡◌, ℕ, ◌+◌, ◌^◌, ◌≤◌, List, [], ◌++◌, length, length-append, map, refl, sym, ap, ◌∙◌, subst, append_assoc, arith}
 use Rattle.sst_key.specs.declared.entries.Entry.{Entry}
-use Rattle.sst_block.specs.declared.row_form.RowForm.TheVariants.{Names}
-use Rattle.sst_block.specs.Block.{Row, Block}
-use Rattle.sst_block.specs.Chosen.{block_of}
-use Rattle.sst_meta.specs.BlockFooter.{footer_start}
-use Rattle.sst_meta.specs.Meta.{Meta, AreGood}
-use Rattle.sst_meta.specs.declared.loading.Loaded.{Loaded}
 use Rattle.sst_device.specs.Framed.{frame_of}
+use Rattle.sst_meta.specs.BlockFooter.{footer_start}
+use Rattle.sst_meta.specs.Put.{ending_of, file_with, loaded_with}
+use Rattle.sst_meta.proofs.FramedParts.{length-frame, framed-at}
+use Rattle.sst_meta.proofs.PutLoads.{front-within, file_with-le, put-meta}
 use Rattle.sst_bbt_spec.specs.Runs.{Runs}
 use Rattle.sst_bbt_spec.specs.BlockBased.{Opens, BlockBased}
 use Rattle.sst_cli.specs.Cut.{blocks_for, entries_in}
-use Rattle.sst_cli.specs.Written.{Fits, Written, data_part, index_rows, index_block, properties, properties_block, footer_of, sizes_of, file_of_blocks, table_of}
+use Rattle.sst_cli.specs.Written.{Fits, Written, data_part, index_rows, index_block, index_place, properties, end_of, sizes_of, file_of_blocks, table_of}
 use Rattle.sst_cli.specs.declared.bbt_options.BbtOptions.{BbtOptions}
 use Rattle.sst_cli.specs.declared.properties.Sizes.{Sizes}
 use Rattle.sst_cli.proofs.FullBlocks.{HaveEntries, blocks_for-entries, blocks_for-some}
 use Rattle.sst_cli.proofs.IndexRows.{data_part-le, index_block-short, index_block-is}
-use Rattle.sst_cli.proofs.FileParts.{whole, props_place, names_place, end_place, before_footer, length-before_footer, parted-footer, index-framed, props-framed, names-framed}
 use Rattle.sst_cli.proofs.DataBlocks.{indexed, rows-lead, entries-run}
-use Rattle.sst_cli.proofs.PropertiesStand.{properties-le, properties-are, properties-good, names_rows, names-le, names-are, names-lead, names-no_tombstones}
-use Rattle.sst_cli.proofs.FooterStands.{footer_start-is, loaded_of, footer-meta}
+use Rattle.sst_cli.proofs.PropertyRows.{properties-short}
+use Rattle.sst_cli.proofs.PropertiesStand.{properties-are}
 
--- where the properties block stands behind stored data blocks and an index block, and the metaindex block that leads there
-abbrev props_at : List ℕ → List ℕ → List ℕ → Handle
-props_at stored index props = record { offset = props_place stored index; size = length props }
+-- what stands before the properties block: the stored data blocks, and the stored index block
+abbrev front_of : List ℕ → List ℕ → List ℕ
+front_of stored index = stored ++ frame_of index
 
-abbrev names_of : List ℕ → List ℕ → List ℕ → List ℕ
-names_of stored index props = block_of 1 (names_rows (props_at stored index props))
+length-front : (stored index : List ℕ) → length (front_of stored index) ≡ length stored + length index + 5
+length-front stored index = omega (arith, length-append stored (frame_of index), length-frame index)
 
--- where that and the index block stand
-abbrev names_at : List ℕ → List ℕ → List ℕ → Handle
-names_at stored index props = record { offset = names_place stored index props; size = length (names_of stored index props) }
-
-abbrev index_at : List ℕ → List ℕ → Handle
-index_at stored index = record { offset = length stored; size = length index }
-
--- the file, and what is loaded of it
-abbrev file_with : List ℕ → List ℕ → List ℕ → List ℕ
-file_with stored index props = whole stored index props (names_of stored index props) (footer_of (names_at stored index props) (index_at stored index))
-
-abbrev loaded_with : List ℕ → List ℕ → List ℕ → List Row → Loaded
-loaded_with stored index props rows =
-    loaded_of (file_with stored index props) (names_at stored index props) (index_at stored index) (names_rows (props_at stored index props)) rows
-
--- what is before the footer
-front_with : List ℕ → List ℕ → List ℕ → List ℕ
-front_with stored index props = before_footer stored index props (names_of stored index props)
-
-file-parted : (stored index props : List ℕ)
-    → file_with stored index props ≡ front_with stored index props ++ footer_of (names_at stored index props) (index_at stored index)
-unfolding front_with
-file-parted stored index props =
-    parted-footer stored index props (names_of stored index props) (footer_of (names_at stored index props) (index_at stored index))
-
-length-front : (stored index props : List ℕ) → end_place stored index props (names_of stored index props) ≡ length (front_with stored index props)
-unfolding front_with
-length-front stored index props = length-before_footer stored index props (names_of stored index props)
-
-end-is : (stored index props : List ℕ) → end_place stored index props (names_of stored index props) ≡ footer_start (file_with stored index props)
-end-is stored index props =
-    length-front stored index props
-    ∙ sym (footer_start-is (file_with stored index props) (front_with stored index props) (names_at stored index props) (index_at stored index) (file-parted stored index props))
-
--- what the file says of itself, where its parts aren't too long and the properties are good
-file-meta : (stored index props : List ℕ) (rows : List Row) → length stored ≤ 2 ^ 29 → length index ≤ 2 ^ 29 → length props ≤ 2000
-    → Block Names props rows → AreGood rows → Meta (file_with stored index props) (loaded_with stored index props rows)
-file-meta stored index props rows first second third is good =
-    let at = props_at stored index props in
-    let footer = footer_of (names_at stored index props) (index_at stored index) in
-    let file = file_with stored index props in
-    let last = names-le at in
-    let short : length (front_with stored index props) + 53 < 2 ^ 40 = omega (arith, length-front stored index props) in
-    let start = end-is stored index props in
-    footer-meta file (front_with stored index props) (names_at stored index props) (index_at stored index) at (names_rows at) rows
-    (file-parted stored index props) short (omega arith, omega arith) (omega arith, omega arith)
-    (record {
-      block = names_of stored index props;
-      framed = names-framed stored index props (names_of stored index props) footer (footer_start file) (omega arith) (omega arith);
-      is = names-are at;
-    })
-    (record {
-      block = props;
-      framed = props-framed stored index props (names_of stored index props) footer (footer_start file) (omega arith) (omega arith);
-      is = is;
-    })
-    (names-no_tombstones at) (names-lead at) good
+-- the rest is the end of a file, which is put behind it
+end-put : (stored index : List ℕ) (sizes : Sizes) → sizes.data_size ≡ length stored → sizes.index_size ≡ length index + 5
+    → stored ++ end_of index sizes ≡ file_with (front_of stored index) 2 (index_place index sizes) (properties sizes)
+end-put stored index sizes first second =
+    let at = index_place index sizes in
+    let place : sizes.data_size + sizes.index_size ≡ length (front_of stored index) = omega (arith, first, second, length-front stored index) in
+    sym (append_assoc stored (frame_of index) (ending_of (sizes.data_size + sizes.index_size) 2 at (properties sizes)))
+    ∙ ap (λ (n : ℕ). front_of stored index ++ ending_of n 2 at (properties sizes)) place
 
 data_part-short : (blocks : List (List Entry)) → HaveEntries blocks → Fits (entries_in blocks) → length (data_part blocks) ≤ 2 ^ 29
 data_part-short blocks some fits = omega (arith, data_part-le blocks some, fits.light)
 
 -- the file of a list that was cut into blocks opens to these
-blocks-open : (blocks : List (List Entry)) (sizes : Sizes) → HaveEntries blocks → Fits (entries_in blocks)
-    → Opens (file_with (data_part blocks) (index_block blocks) (properties_block sizes)) (map indexed blocks)
-blocks-open blocks sizes some fits =
+blocks-open : (blocks : List (List Entry)) (sizes : Sizes) → HaveEntries blocks → Fits (entries_in blocks) → sizes.data_size ≡ length (data_part blocks)
+    → Opens (file_with (front_of (data_part blocks) (index_block blocks)) 2 (index_place (index_block blocks) sizes) (properties sizes)) (map indexed blocks)
+blocks-open blocks sizes some fits first =
     let stored = data_part blocks in
     let index = index_block blocks in
-    let props = properties_block sizes in
-    let names = names_of stored index props in
-    let footer = footer_of (names_at stored index props) (index_at stored index) in
-    let file = file_with stored index props in
-    let tail = frame_of index ++ (frame_of props ++ (frame_of names ++ footer)) in
+    let at = index_place index sizes in
+    let front = front_of stored index in
+    let file = file_with front 2 at (properties sizes) in
+    let rest = ending_of (length front) 2 at (properties sizes) in
+    let parted : file ≡ stored ++ (frame_of index ++ rest) = append_assoc stored (frame_of index) rest in
+    let stored_short = data_part-short blocks some fits in
     let small : length index ≤ 2 ^ 29 = omega (arith, index_block-short blocks some fits) in
-    let end = end-is stored index props in
+    let long = length-front stored index in
+    let within = front-within front 2 at (properties sizes) in
+    let whole = file_with-le front 2 at (properties sizes) in
+    let props = properties-short sizes in
     record {
-      loaded = loaded_with stored index props (properties sizes);
-      meta = file-meta stored index props (properties sizes) (data_part-short blocks some fits) small (properties-le sizes) (properties-are sizes) (properties-good sizes);
+      loaded = loaded_with front 2 at (properties sizes);
+      meta = put-meta front 2 at (properties sizes) (omega arith, omega arith) (omega (arith, first, stored_short), omega (arith, small)) (properties-are sizes)
+          (omega (arith, whole, long, props, stored_short, small));
       index_block = index;
       index_rows = index_rows 0 blocks;
-      framed = index-framed stored index props names footer (footer_start file) small (omega arith);
+      framed = framed-at file stored index rest sizes.data_size (footer_start file) parted first small (omega (arith, first, long, within));
       index_is = index_block-is blocks some fits;
-      lead = rows-lead file [] tail 0 (footer_start file) blocks some fits refl refl (omega arith);
+      lead = rows-lead file [] (frame_of index ++ rest) 0 (footer_start file) blocks some fits parted refl (omega (arith, long, within));
     }
 
 -- and it stands for their entries
@@ -118,9 +70,11 @@ blocks-stand : (blocks : List (List Entry)) (entries : List Entry) → HaveEntri
     → BlockBased (file_of_blocks blocks entries) entries
 blocks-stand blocks entries some fits is =
     let within : Fits (entries_in blocks) = subst Fits (sym is) fits in
+    let sizes = sizes_of blocks entries in
     record {
       blocks = map indexed blocks;
-      opens = blocks-open blocks (sizes_of blocks entries) some within;
+      opens = subst (λ (f : List ℕ). Opens f (map indexed blocks)) (sym (end-put (data_part blocks) (index_block blocks) sizes refl refl))
+          (blocks-open blocks sizes some within refl);
       runs = subst (λ (l : List Entry). Runs (map indexed blocks) l) is (entries-run blocks some within);
     }
 

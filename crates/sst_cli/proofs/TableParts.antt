@@ -13,8 +13,10 @@ use Rattle.sst_meta.specs.declared.name.Name.TheVariants as name
 use Rattle.sst_meta.proofs.Footers.{length-handle}
 use Rattle.sst_device.specs.Framed.{frame_of}
 use Rattle.sst_cli.specs.declared.properties.Sizes.{Sizes}
-use Rattle.sst_cli.specs.FileEnd.{handle_of, end_of}
-use Rattle.sst_cli.specs.Written.{property, properties_handle, properties_block, metaindex_block, metaindex_handle, footer_of}
+use Rattle.sst_meta.specs.BlockFooter.{block_footer}
+use Rattle.sst_meta.specs.Footer.{footer_spelling}
+use Rattle.sst_meta.specs.Put.{props_for, metaindex_block, metaindex_place, footer_for}
+use Rattle.sst_cli.specs.Written.{property, properties, index_place, end_of}
 
 -- a builder of names that has no row takes the row that leads to the properties
 pub metaindex_takes : (b : BlockBuilder) (value : List ℕ) (handle : Handle) → Holds b Names 1 [] → value ≡ handle_spelling handle
@@ -42,23 +44,26 @@ pub handle_at : (h : Handle) (n m offset size : ℕ) → h ≡ record { offset =
 handle_at h n m offset size is at long = is ∙ ap (λ (k : ℕ). record { offset = k; size = m }) at ∙ ap (λ (k : ℕ). record { offset = offset; size = k }) long
 
 -- what stands behind the data blocks, part by part
-pub end_joined : (old first second third new index properties names : List ℕ) (sizes : Sizes) (metaindex_at index_at : Handle)
-    → first ≡ old ++ frame_of index → second ≡ first ++ frame_of properties → third ≡ second ++ frame_of names
-    → new ≡ third ++ footer_of metaindex_at index_at
-    → properties ≡ properties_block sizes → names ≡ metaindex_block sizes
-    → metaindex_at ≡ metaindex_handle sizes → index_at ≡ handle_of index sizes
+pub end_joined : (old first second third new index props names : List ℕ) (sizes : Sizes) (metaindex_at index_at : Handle)
+    → first ≡ old ++ frame_of index → second ≡ first ++ frame_of props → third ≡ second ++ frame_of names
+    → new ≡ third ++ footer_spelling (block_footer 2 metaindex_at index_at)
+    → props ≡ props_for (properties sizes) → names ≡ metaindex_block (sizes.data_size + sizes.index_size) (properties sizes)
+    → metaindex_at ≡ metaindex_place (sizes.data_size + sizes.index_size) (properties sizes) → index_at ≡ index_place index sizes
     → new ≡ old ++ end_of index sizes
-end_joined old first second third new index properties names sizes metaindex_at index_at ea eb ec ed properties_is names_is metaindex_is index_is =
-    joined_four old (frame_of index) (frame_of (properties_block sizes)) (frame_of (metaindex_block sizes)) (footer_of (metaindex_handle sizes) (handle_of index sizes)) first second third new
-    ea (eb ∙ ap (λ (l : List ℕ). first ++ frame_of l) properties_is) (ec ∙ ap (λ (l : List ℕ). second ++ frame_of l) names_is)
-    (ed ∙ ap (λ (h : Handle). third ++ footer_of h index_at) metaindex_is ∙ ap (λ (h : Handle). third ++ footer_of (metaindex_handle sizes) h) index_is)
+end_joined old first second third new index props names sizes metaindex_at index_at ea eb ec ed props_are names_are metaindex_is index_is =
+    let at = sizes.data_size + sizes.index_size in
+    joined_four old (frame_of index) (frame_of (props_for (properties sizes))) (frame_of (metaindex_block at (properties sizes)))
+    (footer_spelling (footer_for at 2 (index_place index sizes) (properties sizes))) first second third new
+    ea (eb ∙ ap (λ (l : List ℕ). first ++ frame_of l) props_are) (ec ∙ ap (λ (l : List ℕ). second ++ frame_of l) names_are)
+    (ed ∙ ap (λ (h : Handle). third ++ footer_spelling (block_footer 2 h index_at)) metaindex_is
+    ∙ ap (λ (h : Handle). third ++ footer_spelling (block_footer 2 (metaindex_place at (properties sizes)) h)) index_is)
 
 -- where the properties block stands, by its length, and where the metaindex block does
-pub properties_at : (sizes : Sizes) (n : ℕ) → n ≡ length (properties_block sizes)
-    → ◌≡◌ {A = Handle} (record { offset = sizes.data_size + sizes.index_size; size = n }) (properties_handle sizes)
-properties_at sizes n long = ap (λ (k : ℕ). record { offset = sizes.data_size + sizes.index_size; size = k }) long
+pub properties_at : (at n : ℕ) (pairs : List Row) → n ≡ length (props_for pairs)
+    → ◌≡◌ {A = Handle} (record { offset = at; size = n }) (record { offset = at; size = length (props_for pairs) })
+properties_at at n pairs long = ap (λ (k : ℕ). record { offset = at; size = k }) long
 
-pub metaindex_at : (sizes : Sizes) (n m : ℕ) → n ≡ length (properties_block sizes) → m ≡ length (metaindex_block sizes)
-    → ◌≡◌ {A = Handle} (record { offset = sizes.data_size + sizes.index_size + n + 5; size = m }) (metaindex_handle sizes)
-metaindex_at sizes n m long names =
-    handle_at (record { offset = sizes.data_size + sizes.index_size + n + 5; size = m }) (sizes.data_size + sizes.index_size + n + 5) m _ _ refl (omega arith) names
+pub metaindex_at : (at n m : ℕ) (pairs : List Row) → n ≡ length (props_for pairs) → m ≡ length (metaindex_block at pairs)
+    → ◌≡◌ {A = Handle} (record { offset = at + n + 5; size = m }) (metaindex_place at pairs)
+metaindex_at at n m pairs long names =
+    handle_at (record { offset = at + n + 5; size = m }) (at + n + 5) m _ _ refl (omega arith) names

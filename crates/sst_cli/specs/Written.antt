@@ -12,9 +12,8 @@ use Rattle.sst_block.specs.Block.{Row}
 use Rattle.sst_block.specs.Builder.{last_key}
 use Rattle.sst_block.specs.Chosen.{block_of}
 use Rattle.sst_device.specs.Framed.{frame_of}
-use Rattle.sst_meta.specs.BlockFooter.{block_footer}
-use Rattle.sst_meta.specs.Footer.{footer_spelling}
 use Rattle.sst_meta.specs.Names as names
+use Rattle.sst_meta.specs.Put.{ending_of}
 use Rattle.sst_bbt_spec.specs.Rows.{HasSeq, rows_of}
 use Rattle.sst_bbt_spec.specs.BlockBased.{BlockBased}
 use Rattle.sst_cli.specs.Cut.{data_block, blocks_for}
@@ -97,40 +96,18 @@ sizes_of blocks entries =
       values = value_bytes entries;
     }
 
--- the properties block: one restart
-abbrev pub properties_block : Sizes → List ℕ
-properties_block sizes = block_of 65536 (properties sizes)
-
--- where the properties block stands: behind the stored data blocks and the stored index block
-abbrev pub properties_handle : Sizes → Handle
-properties_handle sizes = record { offset = sizes.data_size + sizes.index_size; size = length (properties_block sizes) }
-
--- the metaindex block: one row, which leads to the properties
-abbrev pub metaindex_block : Sizes → List ℕ
-metaindex_block sizes = block_of 1 (property (names.name_bytes name.Properties) (handle_spelling (properties_handle sizes)) ∷ [])
-
--- where the metaindex block stands: behind the stored properties block
-abbrev pub metaindex_handle : Sizes → Handle
-metaindex_handle sizes =
-    record {
-      offset = sizes.data_size + sizes.index_size + stored_length (properties_block sizes);
-      size = length (metaindex_block sizes);
-    }
-
 -- where the index block stands: behind the stored data blocks
-abbrev pub index_handle : List (List Entry) → Handle
-index_handle blocks = record { offset = length (data_part blocks); size = length (index_block blocks) }
+abbrev pub index_place : List ℕ → Sizes → Handle
+index_place index sizes = record { offset = sizes.data_size; size = length index }
 
--- the footer, which has version 2
-unfoldable pub footer_of : Handle → Handle → List ℕ
-footer_of metaindex index = footer_spelling (block_footer 2 metaindex index)
+-- what stands behind the stored data blocks, by the bytes of the index block: this, and then the end of a file of version 2
+-- with these properties, which is properties block, metaindex block and footer
+abbrev pub end_of : List ℕ → Sizes → List ℕ
+end_of index sizes = frame_of index ++ ending_of (sizes.data_size + sizes.index_size) 2 (index_place index sizes) (properties sizes)
 
--- what stands behind the stored data blocks: index block, properties block, metaindex block, footer
+-- the same of blocks
 abbrev pub end_part : List (List Entry) → Sizes → List ℕ
-end_part blocks sizes =
-    frame_of (index_block blocks)
-    ++ (frame_of (properties_block sizes)
-    ++ (frame_of (metaindex_block sizes) ++ footer_of (metaindex_handle sizes) (index_handle blocks)))
+end_part blocks sizes = end_of (index_block blocks) sizes
 
 -- the bytes of the file of a list that was cut into these blocks
 abbrev pub file_of_blocks : List (List Entry) → List Entry → List ℕ

@@ -4,6 +4,7 @@ ghost use Rattle.sst_block.specs.Block.{Row};
 ghost use Rattle.sst_meta.specs.Builder.{Holds};
 ghost use Rattle.sst_num.specs.Spelling.{varint};
 ghost use Rattle.sst_cli.specs.NextProperty.{IsNextProperty, kind_properties};
+ghost use Rattle.sst_meta.specs.Put.{props_for};
 ghost use Rattle.sst_cli.specs.Written as written;
 
 use sst_meta::{PropsBuilder, names};
@@ -62,7 +63,7 @@ fn set_kind(alloc: Global, props: &mut PropsBuilder) -> Result<(), Memory>
 /// RocksDB: `BlockBasedTableBuilder::WritePropertiesBlock` in table/block_based/block_based_table_builder.cc, and
 /// `PropertyBlockBuilder::AddTableProperty` in table/meta_blocks.cc.
 pub fn properties_block(alloc: Global, sizes: Sizes) -> Result<Bytes, Memory>
-    ensures { IfOk result (λ block. block ≡ written.properties_block sizes) }
+    ensures { IfOk result (λ block. block ≡ props_for (written.properties sizes)) }
 {
     let mut props = PropsBuilder::new(alloc)?;
     set_kind(alloc, &mut props)?;

@@ -1,15 +1,17 @@
 //! What stands behind the data blocks of a block-based file: index block, properties block, metaindex block, footer.
 ghost use Rattle.std.specs.Prelude.{◌≡◌, ◌+◌, ◌<◌, ◌^◌, ℕ, List, ◌++◌, length, IfOk, OnOk, OnErr};
-ghost use Rattle.sst_cli.specs.FileEnd.{end_of};
-ghost use Rattle.sst_cli.specs.Written as written;
-ghost use Rattle.sst_cli.specs.Written.{footer_of};
-ghost use Rattle.sst_cli.specs.declared.properties.Sizes as numbers;
+ghost use Rattle.sst_block.specs.Block.{Row};
+ghost use Rattle.sst_meta.specs.BlockFooter.{block_footer};
+ghost use Rattle.sst_meta.specs.Footer.{footer_spelling};
+ghost use Rattle.sst_meta.specs.Put as put;
+ghost use Rattle.sst_meta.specs.Put.{props_for};
+ghost use Rattle.sst_cli.specs.Written.{end_of};
 
 use crate::properties::{Sizes, properties_block};
 use sst_block::{BlockBuilder, RowForm};
 use sst_device::put_frame;
 use sst_key::Format;
-use sst_meta::{Footer, names};
+use sst_meta::{Footer, names, put_footer};
 use sst_num::{Bytes, Handle, Memory, put_handle};
 use std::alloc::Global;
 
@@ -33,8 +35,8 @@ const CHECKSUM_TYPE: u8 = 1;
 ///
 /// RocksDB: `MetaIndexBuilder` in table/meta_blocks.h.
 fn metaindex_block(alloc: Global, properties: Handle) -> Result<Bytes, Memory>
-    ensures { (sizes : numbers.Sizes) → properties ≡ written.properties_handle sizes
-        → IfOk result (λ block. block ≡ written.metaindex_block sizes) }
+    ensures { (at : ℕ) (pairs : List Row) → properties ≡ record { offset = at; size = length (props_for pairs) }
+        → IfOk result (λ block. block ≡ put.metaindex_block at pairs) }
 {
     let mut value = Vec::new(alloc);
     put_handle(&mut value, properties)?;
@@ -47,9 +49,8 @@ fn metaindex_block(alloc: Global, properties: Handle) -> Result<Bytes, Memory>
 ///
 /// Where memory runs out, `out` holds its old bytes followed by any.
 /// RocksDB: `FooterBuilder::Build` in table/format.cc.
-#[tactic(auto, unfolding(crate::specs::Written::footer_of))]
-fn put_footer(out: &mut Vec<u8>, metaindex: Handle, index: Handle) -> Result<(), Memory>
-    ensures ok { OnOk result (out.new.items ≡ out.old.items ++ footer_of metaindex index) }
+fn put_block_footer(out: &mut Vec<u8>, metaindex: Handle, index: Handle) -> Result<(), Memory>
+    ensures ok { OnOk result (out.new.items ≡ out.old.items ++ footer_spelling (block_footer 2 metaindex index)) }
     ensures err { OnErr result ((rest : List ℕ) × (out.new.items ≡ out.old.items ++ rest)) }
 {
     let footer = Footer {
@@ -60,7 +61,7 @@ fn put_footer(out: &mut Vec<u8>, metaindex: Handle, index: Handle) -> Result<(),
         meta: metaindex,
         index,
     };
-    sst_meta::put_footer(out, &footer)
+    put_footer(out, &footer)
 }
 
 /// Appends what stands behind the data blocks of a file, whose index block is `index`.
@@ -89,5 +90,5 @@ pub fn put_end(alloc: Global, out: &mut Vec<u8>, index: &[u8], sizes: Sizes) -> 
         size: block.len() as u64,
     };
     put_frame(out, block.as_slice())?;
-    put_footer(out, metaindex, index_handle)
+    put_block_footer(out, metaindex, index_handle)
 }

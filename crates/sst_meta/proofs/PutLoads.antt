@@ -109,8 +109,20 @@ metaindex-spelled front version index pairs p short =
     let first = length-before_footer front pairs in
     (omega (arith, long, first, short), omega (arith, metaindex-le (length front) pairs))
 
+-- what stands before the properties block ends before the footer
+pub front-within : (front : List ℕ) (version : ℕ) (index : Handle) (pairs : List Row) → length front ≤ footer_start (file_with front version index pairs)
+front-within front version index pairs = omega (arith, footer-place front version index pairs, length-before_footer front pairs)
+
+-- metaindex and footer are short
+pub file_with-le : (front : List ℕ) (version : ℕ) (index : Handle) (pairs : List Row)
+    → length (file_with front version index pairs) ≤ length front + length (props_for pairs) + 263
+file_with-le front version index pairs =
+    let at = metaindex_place (length front) pairs in
+    let long = length-footed (file_with front version index pairs) (before_footer front pairs) version at index (parted-footer front version index pairs) in
+    omega (arith, long, length-before_footer front pairs, metaindex-le (length front) pairs)
+
 -- what the file says of itself
-put-meta : (front : List ℕ) (version : ℕ) (index : Handle) (pairs : List Row) → IsBuilt version → IsSpelled index → AreProps pairs
+pub put-meta : (front : List ℕ) (version : ℕ) (index : Handle) (pairs : List Row) → IsBuilt version → IsSpelled index → AreProps pairs
     → length (file_with front version index pairs) < 2 ^ 40 → Meta (file_with front version index pairs) (loaded_with front version index pairs)
 put-meta front version index pairs built spelled p short =
     let file = file_with front version index pairs in

@@ -15,7 +15,7 @@ add-requires c =
     metaindex_takes c.in_ok-block.block _ c.args.properties c.in_ok-block.ensures value
 
 pub returns : goal.returns
-returns c = λ sizes is.
+returns c = λ at pairs is.
     let value = c.deref.ensures.value ∙ c.in_ok-put_handle.ensures.ok ∙ ap (λ (l : List ℕ). l ++ handle_spelling c.args.properties) c.new-value.ensures.items
     ∙ ap handle_spelling is in
     let rows = ap (λ (v : List ℕ). block_of 1 (property (names.name_bytes name.Properties) v ∷ [])) value in
