@@ -52,6 +52,8 @@
 #![tactic(auto)]
 
 mod laws;
+#[cfg(test)]
+mod tests;
 
 pub use laws::{
     a_file_stands_for_one_list, a_file_that_stands_is_separated, the_way_is_the_lists,

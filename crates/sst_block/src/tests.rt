@@ -1,4 +1,7 @@
-use crate::{BlockBuilder, RowForm};
+use crate::{
+    BlockBuilder, RowForm, a_block_has_one_list_of_rows, chosen_block_stands_for_its_rows,
+    first_fault_is_first, reading_finds_exactly_the_rows,
+};
 use std::test::Fail;
 
 // No row, the one restart 0, and that there is one restart.
@@ -57,4 +60,13 @@ fn restarts_and_shared_fronts(rt: HostRuntime) -> Result<(), Fail> {
     let bytes = b"\x00\x03\x01app1\x03\x02\x01le2\x00\x05\x01apply3\0\0\0\0\x0d\0\0\0\x02\0\0\0";
     assert_eq!(rt; block.as_slice(), bytes.as_slice());
     Ok(())
+}
+
+// The laws take no value and answer none: that they can be called is all that a test can show.
+#[test]
+fn laws(_rt: HostRuntime) {
+    chosen_block_stands_for_its_rows();
+    reading_finds_exactly_the_rows();
+    a_block_has_one_list_of_rows();
+    first_fault_is_first();
 }

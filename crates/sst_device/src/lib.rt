@@ -88,6 +88,8 @@ mod real;
 mod stream;
 #[cfg(test)]
 mod tests;
+#[cfg(test)]
+mod want_of_memory_tests;
 
 pub use drawing::{draw, draw_framed};
 pub use folder::{DevStop, Failed, Folder};

@@ -1,6 +1,12 @@
-use crate::{Answer, Call, Entry, Format, Kind, Reply, Target, answer};
+use crate::{
+    Answer, Call, Entry, Format, Kind, Reply, Target, answer, first_and_next_go_through,
+    get_shows_the_newest, last_and_prev_go_back, seek_for_prev_lands_on_the_last_up_to,
+    seek_lands_on_the_first_not_before, target_cmp, targets_compare_as_said,
+    visible_is_what_gets_show,
+};
 use sst_num::{Bytes, Memory};
 use std::alloc::Global;
+use std::cmp::Ordering;
 use std::test::Fail;
 
 fn entry(alloc: Global, user: &[u8], seq: u64) -> Result<Entry, Memory> {
@@ -35,6 +41,29 @@ fn nothing(reply: Reply, position: Option<usize>) -> Answer {
         shown: None,
         position,
     }
+}
+
+// User keys bytewise, a key before what it begins; and of one user key the greater sequence number first.
+#[test]
+fn an_entry_and_targets(rt: HostRuntime) -> Result<(), Fail> {
+    let entry = entry(rt.alloc(), b"k", 5)?;
+    for (user, seq, stands) in [
+        (&b"k"[..], 5u64, Ordering::Equal),
+        (b"k", 6, Ordering::Greater),
+        (b"k", 4, Ordering::Less),
+        (b"j", 4, Ordering::Greater),
+        (b"l", 6, Ordering::Less),
+        (b"k\x00", 6, Ordering::Less),
+        (b"", 4, Ordering::Greater),
+    ] {
+        assert_eq!(rt;
+            target_cmp(&entry, user, seq),
+            stands,
+            "to {user:?} at {seq}"
+        );
+    }
+    targets_compare_as_said();
+    Ok(())
 }
 
 // Three entries of one user key, at the sequence numbers 9, 5 and 2.
@@ -72,6 +101,10 @@ fn one_user_key(rt: HostRuntime) -> Result<(), Fail> {
     );
     let on = Call::Seek(target(rt.alloc(), b"k", 4)?);
     assert_eq!(rt; answer(entries, Format::Block, 0, None, &on), at(2));
+    get_shows_the_newest();
+    visible_is_what_gets_show();
+    seek_for_prev_lands_on_the_last_up_to();
+    seek_lands_on_the_first_not_before();
     Ok(())
 }
 
@@ -100,6 +133,8 @@ fn past_the_end(rt: HostRuntime) -> Result<(), Fail> {
         answer(entries, Format::Block, 0, Some(0), &Call::Prev),
         nothing(Reply::None, None)
     );
+    first_and_next_go_through();
+    last_and_prev_go_back();
     Ok(())
 }
 

@@ -1,4 +1,6 @@
-use crate::{KeyRoom, Kind, cmp_internal, pack, unpack};
+use crate::{
+    KeyRoom, Kind, cmp_internal, internal_order_is_entry_order, pack, packed_is_unpacked, unpack,
+};
 use std::cmp::Ordering;
 use std::test::Fail;
 
@@ -39,6 +41,7 @@ fn compared_keys(rt: HostRuntime) {
     assert_eq!(rt; cmp_internal(older, newer), Ordering::Greater);
     assert_eq!(rt; cmp_internal(older, older), Ordering::Equal);
     assert_eq!(rt; cmp_internal(older, longer), Ordering::Less);
+    internal_order_is_entry_order();
 }
 
 // The key `a` (61) at sequence number 1; no user key; each kind by its number, the greatest sequence number behind
@@ -63,6 +66,7 @@ fn unpacked_keys(rt: HostRuntime) {
     ] {
         assert_eq!(rt; unpack(key), parts, "at {key:?}");
     }
+    packed_is_unpacked();
 }
 
 // A room has no key at first; each key keeps a front of the one before it, up to the longest key.

@@ -102,6 +102,8 @@ mod laws;
 mod loading;
 mod loading_laws;
 #[cfg(test)]
+mod loading_outside_tests;
+#[cfg(test)]
 mod loading_tests;
 mod looked_at;
 mod meta_fault;

@@ -1,6 +1,6 @@
 ghost use Rattle.std.specs.Prelude.{◌≤◌, ◌^◌, length};
 
-use crate::{Props, PropsBuilder, names};
+use crate::{Name, Props, PropsBuilder, a_name_has_one_value, names, properties_have_one_restart};
 use sst_block::BlockFault;
 use sst_num::Refused;
 use std::alloc::Global;
@@ -106,4 +106,32 @@ fn damaged_properties(rt: HostRuntime) {
         b"\x00\x01\x00b\x00\x01\x00a\0\0\0\0\x01\0\0\0",
         BlockFault::Disorder(4),
     );
+}
+
+// As RocksDB's files have them.
+#[test]
+fn names_that_faults_name(rt: HostRuntime) {
+    for (name, bytes) in [
+        (Name::Properties, &b"rocksdb.properties"[..]),
+        (Name::IndexType, b"rocksdb.block.based.table.index.type"),
+        (
+            Name::GlobalSequence,
+            b"rocksdb.external_sst_file.global_seqno",
+        ),
+        (Name::ExternalVersion, b"rocksdb.external_sst_file.version"),
+        (Name::IndexKeyIsUserKey, b"rocksdb.index.key.is.user.key"),
+        (
+            Name::IndexValueIsDeltaEncoded,
+            b"rocksdb.index.value.is.delta.encoded",
+        ),
+    ] {
+        assert_eq!(rt; name.as_slice(), bytes);
+    }
+}
+
+// The laws take no value and answer none: that they can be called is all that a test can show.
+#[test]
+fn laws(_rt: HostRuntime) {
+    a_name_has_one_value();
+    properties_have_one_restart();
 }

@@ -1,7 +1,11 @@
 use crate::{
-    Bytes, Handle, fixed16, fixed32, fixed64, put_fixed16, put_fixed32, put_fixed64, put_handle,
-    put_varint32, put_varint64, take_handle, take_varint32, take_varint64,
+    Bytes, Handle, Memory, Refused, Stop, fixed_is_taken_again, fixed_reads_back, fixed16, fixed32,
+    fixed64, handle_is_taken_again, no_varint_begins_another, put_fixed16, put_fixed32,
+    put_fixed64, put_handle, put_varint32, put_varint64, take_handle, take_varint32, take_varint64,
+    varint_is_taken_again, varint_is_the_only_spelling, varint_is_the_spelling,
+    varint32_is_taken_again,
 };
+use std::alloc::{AllocError, AllocFailed};
 use std::test::Fail;
 
 // The bounds of one and two bytes, the usual example 300, and the greatest number.
@@ -28,6 +32,9 @@ fn varints(rt: HostRuntime) -> Result<(), Fail> {
         out.as_slice(),
         [0xac, 0x02, 0xff, 0xff, 0xff, 0xff, 0x0f].as_slice()
     );
+    varint_is_the_spelling();
+    varint_is_the_only_spelling();
+    no_varint_begins_another();
     Ok(())
 }
 
@@ -81,6 +88,7 @@ fn varints_taken(rt: HostRuntime) -> Result<(), Fail> {
     ] {
         assert_eq!(rt; take_varint64(bytes), taken);
     }
+    varint_is_taken_again();
     Ok(())
 }
 
@@ -92,6 +100,7 @@ fn varints_of_32_bits_taken(rt: HostRuntime) -> Result<(), Fail> {
         Some((u32::MAX, 5))
     );
     assert_eq!(rt; take_varint32(&[0x80, 0x80, 0x80, 0x80, 0x10]), None);
+    varint32_is_taken_again();
     Ok(())
 }
 
@@ -103,6 +112,7 @@ fn handles_taken(rt: HostRuntime) -> Result<(), Fail> {
     };
     assert_eq!(rt; take_handle(&[0x28, 0xac, 0x02]), Some((handle, 3)));
     assert_eq!(rt; take_handle(&[0x28, 0xac]), None);
+    handle_is_taken_again();
     Ok(())
 }
 
@@ -112,6 +122,8 @@ fn fixed_numbers_read(rt: HostRuntime) -> Result<(), Fail> {
     assert_eq!(rt; fixed16(&bytes), 0x0708);
     assert_eq!(rt; fixed32(&bytes), 0x0506_0708);
     assert_eq!(rt; fixed64(&bytes), 0x0102_0304_0506_0708);
+    fixed_reads_back();
+    fixed_is_taken_again();
     Ok(())
 }
 
@@ -123,4 +135,21 @@ fn bytes_own_a_copy(rt: HostRuntime) -> Result<(), Fail> {
     assert_eq!(rt; copied.into_vec().as_slice(), b"key".as_slice());
     assert_eq!(rt; Bytes::new(rt.alloc()).len(), 0);
     Ok(())
+}
+
+#[test]
+fn bytes_of_a_vector(rt: HostRuntime) -> Result<(), Fail> {
+    let owned = Bytes::from(Vec::from_slice(rt.alloc(), b"key")?);
+    assert_eq!(rt; owned.as_slice(), b"key".as_slice());
+    Ok(())
+}
+
+// Want of memory becomes the answer Memory of each type that has one.
+#[test]
+fn want_of_memory(rt: HostRuntime) {
+    assert_eq!(rt; Memory::from(AllocError), Memory);
+    assert_eq!(rt; Memory::from(AllocFailed { value: 7u8 }), Memory);
+    assert_eq!(rt; Refused::<u8>::from(Memory), Refused::Memory);
+    assert_eq!(rt; Refused::<u8>::from(AllocError), Refused::Memory);
+    assert_eq!(rt; Stop::<u8>::from(Memory), Stop::Memory);
 }
