@@ -197,6 +197,13 @@ fn many_lines(alloc: Global, count: usize) -> Result<Vec<u8>, Fail> {
 fn as_many_calls_as_there_may_be(rt: HostRuntime) -> Result<(), Fail> {
     let mut text = many_lines(rt.alloc(), CALL_LIMIT)?;
     assert_eq!(rt; count_calls(rt.alloc(), &text, &[])?, Ok(1_048_576));
+    // The line after them is no call line: that is told, and not that it is one too many.
+    text.extend_from_slice(b"put\n")?;
+    assert_eq!(rt;
+        count_calls(rt.alloc(), &text, &[])?,
+        refused(1_048_577, Reason::Line)
+    );
+    text.truncate(text.len().saturating_sub(4));
     text.extend_from_slice(b"next\n")?;
     assert_eq!(rt;
         count_calls(rt.alloc(), &text, &[])?,

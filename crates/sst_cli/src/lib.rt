@@ -136,6 +136,8 @@ mod cuts;
 mod entry_line;
 mod fault_text;
 mod fields;
+#[cfg(test)]
+mod law_tests;
 mod laws;
 mod lines;
 mod list_search;
@@ -143,12 +145,16 @@ mod opening_laws;
 mod printing;
 mod produce;
 mod program;
+#[cfg(test)]
+mod program_tests;
 mod properties;
 mod reading;
 mod refusal;
 mod reply_line;
 mod separators;
 mod table_parts;
+#[cfg(test)]
+mod text_tests;
 mod words;
 mod write_command;
 

@@ -5,6 +5,7 @@ use crate::laws::{a_block_without_a_trailer_is_bare, frame_is_framed, one_file_c
 use crate::memory::{MemFolder, MemIntake, MemSink};
 use crate::real::{DiskFolder, StdIntake, StdSink};
 use crate::stream::{Intake, Sink, put_all};
+use sst_num::{Memory, Stop};
 use std::rt::Files;
 use std::test::Fail;
 
@@ -44,6 +45,7 @@ fn a_real_folder(rt: HostRuntime) {
     assert_eq!(rt; buf, *b"cDEf");
     assert_eq!(rt; folder.read_at("made", 5, &mut buf), Err(DevStop::Failed));
     assert_eq!(rt; folder.add("absent", b"x"), Err(DevStop::Failed));
+    assert_eq!(rt; folder.begin("absent/made"), Err(DevStop::Failed));
     assert_eq!(rt; folder.begin("made"), Ok(()));
     assert_eq!(rt; folder.size("made"), Ok(0));
 }
@@ -55,6 +57,8 @@ fn the_real_streams(rt: HostRuntime) {
     let mut buf = [0; 4];
     assert_eq!(rt; intake.take(&mut buf), Ok(0));
     assert_eq!(rt; put_all(&mut sink, b"to standard output\n"), Ok(()));
+    assert_eq!(rt; sink.put(b"\n"), Ok(1));
+    assert_eq!(rt; sink.put(b""), Ok(0));
 }
 
 #[test]
@@ -116,6 +120,10 @@ fn streams_in_memory(rt: HostRuntime) -> Result<(), Fail> {
     assert_eq!(rt; sink.put(b"34"), Err(DevStop::Failed));
     assert_eq!(rt; sink.put(b"56"), Ok(2));
     assert_eq!(rt; sink.bytes(), b"1256".as_slice());
+    let mut stuck = MemSink::stuck(rt.alloc(), &[2])?;
+    assert_eq!(rt; stuck.put(b"12"), Ok(2));
+    assert_eq!(rt; stuck.put(b"34"), Ok(0));
+    assert_eq!(rt; stuck.bytes(), b"12".as_slice());
     Ok(())
 }
 
@@ -127,6 +135,8 @@ fn whole_pieces(rt: HostRuntime) -> Result<(), Fail> {
     assert_eq!(rt; put_all(&mut sink, b"34"), Err(DevStop::Failed));
     assert_eq!(rt; put_all(&mut sink, b"56"), Ok(()));
     assert_eq!(rt; sink.bytes(), b"1256".as_slice());
+    let mut failing = MemSink::new(rt.alloc(), &[1])?;
+    assert_eq!(rt; put_all(&mut failing, b"12"), Err(DevStop::Failed));
     Ok(())
 }
 
@@ -142,4 +152,11 @@ fn an_empty_block(rt: HostRuntime) -> Result<(), Fail> {
     frame_is_framed();
     a_block_without_a_trailer_is_bare();
     Ok(())
+}
+
+#[test]
+fn stops_by_their_cause(rt: HostRuntime) {
+    assert_eq!(rt; DevStop::from(Memory), DevStop::Memory);
+    assert_eq!(rt; Stop::<u8>::from(DevStop::Failed), Stop::Device);
+    assert_eq!(rt; Stop::<u8>::from(DevStop::Memory), Stop::Memory);
 }

@@ -163,3 +163,18 @@ fn footers_that_are_faults(rt: HostRuntime) -> Result<(), Fail> {
     assert_eq!(rt; read_footer(bytes.as_slice()), Err(MetaFault::BadFooter));
     Ok(())
 }
+
+// Of plain and cuckoo tables any version and any checksum type are read, whatever the padding.
+#[test]
+fn a_plain_footer_of_another_writer(rt: HostRuntime) -> Result<(), Fail> {
+    let mut bytes = Vec::new(rt.alloc());
+    bytes.extend_from_slice(&[0x05, 0x32, 0x08, 0x3f, 0x1e])?;
+    bytes.resize(41, 0xff)?;
+    bytes.extend_from_slice(&[
+        0x07, 0x00, 0x00, 0x00, 0x64, 0x95, 0xbf, 0x63, 0x96, 0x22, 0x42, 0x82,
+    ])?;
+    let f = footer_with(Format::Plain, false, 7, 5);
+    assert_eq!(rt; read_footer(bytes.as_slice()), Ok(f));
+    assert_eq!(rt; format_of(bytes.as_slice()), Some(Format::Plain));
+    Ok(())
+}

@@ -81,6 +81,10 @@ fn a_list_as_heavy_as_it_may_be(rt: HostRuntime) -> Result<(), Fail> {
     let longer = front(&value, LAST_LENGTH + 1);
     assert_eq!(rt; add(&mut writer, MANY, &value, &mut file), heavy);
     assert_eq!(rt; add(&mut writer, MANY, longer, &mut file), heavy);
+    // A value past its limit makes the list too heavy as well: the value is told.
+    let too_long = value_of(rt.alloc(), LENGTH + 1)?;
+    let value_long = Err(Refused::Cause(WriteFault::ValueLong));
+    assert_eq!(rt; add(&mut writer, MANY, &too_long, &mut file), value_long);
     // The refused entries left nothing behind: their key may come again.
     let last = front(&value, LAST_LENGTH);
     assert_eq!(rt; add(&mut writer, MANY, last, &mut file), Ok(()));
