@@ -94,11 +94,12 @@ get-nowhere entries user snapshot o each =
 
 -- ---- the greatest tag
 
-ordered-tail : (x : Entry) (xs : List Entry) → IsOrdered (x ∷ xs) → IsOrdered xs
+pub ordered-tail : (x : Entry) (xs : List Entry) → IsOrdered (x ∷ xs) → IsOrdered xs
 ordered-tail x [] o = tt
 ordered-tail x (y ∷ ys) o = o.1
 
-head-before : (x : Entry) (xs : List Entry) → IsOrdered (x ∷ xs) → (j : ℕ) (b : Entry) → slice_get xs j ≡ Some b → IsBefore x b
+-- an entry that an ordered list begins with is before each of the others
+pub head-before : (x : Entry) (xs : List Entry) → IsOrdered (x ∷ xs) → (j : ℕ) (b : Entry) → slice_get xs j ≡ Some b → IsBefore x b
 head-before x [] o j b at = cc
 head-before x (y ∷ ys) o zero b at = subst (IsBefore x) (same_Some y b at) o.0
 head-before x (y ∷ ys) o (suc j) b at = IsBefore-trans x y b o.0 (head-before y ys o.1 j b at)

@@ -57,7 +57,8 @@
 //! - In an ordered list Seek lands at the first entry that isn't before its target
 //!   ([`seek_lands_on_the_first_not_before`]), SeekForPrev at the last that is up to it
 //!   ([`seek_for_prev_lands_on_the_last_up_to`]), and Get shows the newest entry that the snapshot sees
-//!   ([`get_shows_the_newest`]). What a snapshot sees is what the Gets at it show ([`visible_is_what_gets_show`]).
+//!   ([`get_shows_the_newest`]). What a snapshot sees is what the Gets at it show, in order
+//!   ([`visible_is_what_gets_show`]).
 //! - First and then Next go through the whole list ([`first_and_next_go_through`]), and Last and then Prev back
 //!   ([`last_and_prev_go_back`]).
 //!

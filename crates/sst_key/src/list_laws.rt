@@ -73,7 +73,7 @@ pub fn last_and_prev_go_back()
         ≡ reverse (map (λ i. lands (Some i)) (range_with_len 0 (length entries))) ++ lands None ∷ [] }
 {}
 
-/// What a snapshot sees of a list is what the Gets at it show, and of each user key it is one entry at most.
+/// What a snapshot sees of a list is what the Gets at it show, in order, and of each user key it is one entry at most.
 ///
 /// RocksDB: `ReadOptions::snapshot` in include/rocksdb/options.h.
 pub fn visible_is_what_gets_show()
@@ -81,4 +81,5 @@ pub fn visible_is_what_gets_show()
         → Contains (visible entries snapshot) e
         ↔ ((user : List ℕ) × (i : ℕ) × (get_of entries user snapshot ≡ Some i) × (slice_get entries i ≡ Some e)) }
     ensures once { (entries : List Entry) (snapshot : ℕ) → AllPairs (λ a b. a.user ≡ b.user → ⊥) (visible entries snapshot) }
+    ensures ordered { (entries : List Entry) (snapshot : ℕ) → IsOrdered entries → IsOrdered (visible entries snapshot) }
 {}

@@ -1,4 +1,4 @@
-use crate::{Answer, Call, Entry, Format, Kind, Reply, Target, answer};
+use crate::{Answer, Call, Entry, Format, Kind, Reply, Target, answer, visible_is_what_gets_show};
 use sst_num::{Bytes, Memory};
 use std::alloc::Global;
 use std::test::Fail;
@@ -72,6 +72,7 @@ fn one_user_key(rt: HostRuntime) -> Result<(), Fail> {
     );
     let on = Call::Seek(target(rt.alloc(), b"k", 4)?);
     assert_eq!(rt; answer(entries, Format::Block, 0, None, &on), at(2));
+    visible_is_what_gets_show();
     Ok(())
 }
 
