@@ -1,6 +1,7 @@
 use crate::{
     Bytes, Handle, fixed16, fixed32, fixed64, put_fixed16, put_fixed32, put_fixed64, put_handle,
     put_varint32, put_varint64, take_handle, take_varint32, take_varint64,
+    what_is_read_stands_there,
 };
 use std::test::Fail;
 
@@ -81,6 +82,7 @@ fn varints_taken(rt: HostRuntime) -> Result<(), Fail> {
     ] {
         assert_eq!(rt; take_varint64(bytes), taken);
     }
+    what_is_read_stands_there();
     Ok(())
 }
 
