@@ -11,12 +11,13 @@ use Rattle.sst_key.proofs.Counting.{stands}
 use Rattle.sst_key.proofs.TargetOrder.{tied-users, IsBefore-trans}
 use Rattle.sst_key.proofs.Landings.{below-behind, below-from_not_before, up_to-ahead_of, up_to-from_words_at}
 
-where_passes-some : (test : Entry → Bool) (c i : ℕ) (o : Option Entry) → where_passes test c o ≡ Some i
+-- an entry that passes stands at the place
+pub where_passes-some : (test : Entry → Bool) (c i : ℕ) (o : Option Entry) → where_passes test c o ≡ Some i
     → (c ≡ i) × ((e : Entry) × (o ≡ Some e) × (test e ≡ true))
 where_passes-some test c i None h = cc
 where_passes-some test c i (Some e) h = let both = cond_some (test e) c i h in (both.1, (e, refl, both.0))
 
-where_passes-at : (test : Entry → Bool) (c : ℕ) (o : Option Entry) (e : Entry) → o ≡ Some e → test e ≡ true → where_passes test c o ≡ Some c
+pub where_passes-at : (test : Entry → Bool) (c : ℕ) (o : Option Entry) (e : Entry) → o ≡ Some e → test e ≡ true → where_passes test c o ≡ Some c
 where_passes-at test c o e there passes = rw there (rw passes refl)
 
 -- an entry that the snapshot sees isn't before the target

@@ -29,7 +29,8 @@
 //! shows the entry where it lands; one that lands nowhere shows none.
 //!
 //! Plain tables lack Last, SeekForPrev and Prev, and cuckoo tables SeekForPrev; a call that is lacking leaves the
-//! position. A plain table whose prefixes have a length shows no entry of another prefix at a Seek.
+//! position. A plain table whose prefixes have a length shows no entry of another prefix at a Seek
+//! ([`seek_stays_within_a_prefix`]).
 //!
 //! # Example
 //!
@@ -87,7 +88,7 @@ pub use keys::{cmp_internal, internal_order_is_entry_order, pack};
 pub use list_laws::{
     first_and_next_go_through, get_shows_the_newest, last_and_prev_go_back,
     seek_for_prev_lands_on_the_last_up_to, seek_lands_on_the_first_not_before,
-    targets_compare_as_said, visible_is_what_gets_show,
+    seek_stays_within_a_prefix, targets_compare_as_said, visible_is_what_gets_show,
 };
 pub use list_machine::{answer, target_cmp};
 pub use reading::{packed_is_unpacked, unpack};
