@@ -11,12 +11,13 @@ use Rattle.sst_key.proofs.Counting.{stands}
 use Rattle.sst_key.proofs.TargetOrder.{tied-users, IsBefore-trans}
 use Rattle.sst_key.proofs.Landings.{below-behind, below-from_not_before, up_to-ahead_of, up_to-from_words_at}
 
-where_passes-some : (test : Entry → Bool) (c i : ℕ) (o : Option Entry) → where_passes test c o ≡ Some i
+-- an entry that passes stands at the place
+pub where_passes-some : (test : Entry → Bool) (c i : ℕ) (o : Option Entry) → where_passes test c o ≡ Some i
     → (c ≡ i) × ((e : Entry) × (o ≡ Some e) × (test e ≡ true))
 where_passes-some test c i None h = cc
 where_passes-some test c i (Some e) h = let both = cond_some (test e) c i h in (both.1, (e, refl, both.0))
 
-where_passes-at : (test : Entry → Bool) (c : ℕ) (o : Option Entry) (e : Entry) → o ≡ Some e → test e ≡ true → where_passes test c o ≡ Some c
+pub where_passes-at : (test : Entry → Bool) (c : ℕ) (o : Option Entry) (e : Entry) → o ≡ Some e → test e ≡ true → where_passes test c o ≡ Some c
 where_passes-at test c o e there passes = rw there (rw passes refl)
 
 -- an entry that the snapshot sees isn't before the target
@@ -94,11 +95,12 @@ get-nowhere entries user snapshot o each =
 
 -- ---- the greatest tag
 
-ordered-tail : (x : Entry) (xs : List Entry) → IsOrdered (x ∷ xs) → IsOrdered xs
+pub ordered-tail : (x : Entry) (xs : List Entry) → IsOrdered (x ∷ xs) → IsOrdered xs
 ordered-tail x [] o = tt
 ordered-tail x (y ∷ ys) o = o.1
 
-head-before : (x : Entry) (xs : List Entry) → IsOrdered (x ∷ xs) → (j : ℕ) (b : Entry) → slice_get xs j ≡ Some b → IsBefore x b
+-- an entry that an ordered list begins with is before each of the others
+pub head-before : (x : Entry) (xs : List Entry) → IsOrdered (x ∷ xs) → (j : ℕ) (b : Entry) → slice_get xs j ≡ Some b → IsBefore x b
 head-before x [] o j b at = cc
 head-before x (y ∷ ys) o zero b at = subst (IsBefore x) (same_Some y b at) o.0
 head-before x (y ∷ ys) o (suc j) b at = IsBefore-trans x y b o.0 (head-before y ys o.1 j b at)

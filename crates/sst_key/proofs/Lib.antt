@@ -5,3 +5,4 @@ pub mod Landings
 pub mod Gets
 pub mod Walks
 pub mod Snapshots
+pub mod Prefixes

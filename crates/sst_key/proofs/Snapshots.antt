@@ -5,10 +5,10 @@ use Rattle.std.proofs.lemmas.Option.{same_Some, slice_get_within, slice_get-get_
 use Rattle.std.proofs.lemmas.List.Kept.{AllPairs-cons, AllPairs-filter}
 use Rattle.std.proofs.lemmas.Slice.Eq.{bytes_eq-Decides}
 use Rattle.sst_key.specs.declared.entries.Entry.{Entry}
-use Rattle.sst_key.specs.Entry.{IsOrdered}
+use Rattle.sst_key.specs.Entry.{IsBefore, IsOrdered}
 use Rattle.sst_key.specs.ListMachine.{is_of_user, get_of, visible}
 use Rattle.sst_key.specs.ListLaws.{IsSeen, StandsAt, IsFirstPlace}
-use Rattle.sst_key.proofs.Gets.{get-some, get-at}
+use Rattle.sst_key.proofs.Gets.{get-some, get-at, ordered-tail, head-before}
 
 -- the entry stands in the list
 abbrev In : Entry → List Entry → Type 0
@@ -193,3 +193,42 @@ once-by x xs snapshot false is later = subst (AllPairs (λ a b. a.user ≡ b.use
 pub visible-once : (entries : List Entry) (snapshot : ℕ) → AllPairs (λ a b. a.user ≡ b.user → ⊥) (visible entries snapshot)
 visible-once [] snapshot = λ i j d low within. absurd (omega arith)
 visible-once (x ∷ xs) snapshot = once-by x xs snapshot (nat_le x.seq snapshot) refl (visible-once xs snapshot)
+
+-- ---- in order
+
+ordered-cons : (x : Entry) (xs : List Entry) → ((j : ℕ) (e : Entry) → slice_get xs j ≡ Some e → IsBefore x e) → IsOrdered xs → IsOrdered (x ∷ xs)
+ordered-cons x [] behind o = tt
+ordered-cons x (y ∷ ys) behind o = (behind 0 y refl, o)
+
+ordered-filter_by : (t : Entry → Bool) (x : Entry) (xs : List Entry) (v : Bool) → t x ≡ v → IsOrdered (x ∷ xs)
+    → IsOrdered (filter t xs) → IsOrdered (filter t (x ∷ xs))
+ordered-filter_by t x xs true is o later =
+    subst IsOrdered (sym (filter-kept t x xs is))
+    (ordered-cons x (filter t xs) (λ j e at. (let here = filter-In t xs e j at in head-before x xs o here.0.0 e here.0.1)) later)
+ordered-filter_by t x xs false is o later = subst IsOrdered (sym (filter-dropped t x xs is)) later
+
+ordered-filter : (t : Entry → Bool) (xs : List Entry) → IsOrdered xs → IsOrdered (filter t xs)
+ordered-filter t [] o = tt
+ordered-filter t (x ∷ xs) o = ordered-filter_by t x xs (t x) refl o (ordered-filter t xs (ordered-tail x xs o))
+
+-- what an entry leaves visible behind it comes after it
+visible-behind : (x : Entry) (xs : List Entry) (snapshot : ℕ) → IsOrdered (x ∷ xs) → (j : ℕ) (e : Entry)
+    → slice_get (filter (unhidden x) (visible xs snapshot)) j ≡ Some e → IsBefore x e
+visible-behind x xs snapshot o j e at =
+    let here = filter-In (unhidden x) (visible xs snapshot) e j at in
+    let place = fresh-from_visible snapshot e xs here.0 in
+    head-before x xs o place.0 e place.1
+
+visible-ordered_by : (x : Entry) (xs : List Entry) (snapshot : ℕ) (v : Bool) → nat_le x.seq snapshot ≡ v → IsOrdered (x ∷ xs)
+    → IsOrdered (visible xs snapshot) → IsOrdered (visible (x ∷ xs) snapshot)
+visible-ordered_by x xs snapshot true is o later =
+    subst IsOrdered (sym (visible-seen snapshot x xs is))
+    (ordered-cons x (filter (unhidden x) (visible xs snapshot)) (visible-behind x xs snapshot o)
+    (ordered-filter (unhidden x) (visible xs snapshot) later))
+visible-ordered_by x xs snapshot false is o later = subst IsOrdered (sym (visible-unseen snapshot x xs is)) later
+
+-- what a snapshot sees of an ordered list is in order
+pub visible-ordered : (entries : List Entry) (snapshot : ℕ) → IsOrdered entries → IsOrdered (visible entries snapshot)
+visible-ordered [] snapshot o = tt
+visible-ordered (x ∷ xs) snapshot o =
+    visible-ordered_by x xs snapshot (nat_le x.seq snapshot) refl o (visible-ordered xs snapshot (ordered-tail x xs o))

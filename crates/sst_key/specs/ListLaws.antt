@@ -1,6 +1,6 @@
 -- What the calls of a table mean, said of the list itself and without a count.
 -- RocksDB: Iterator (Seek, SeekForPrev) and ReadOptions::snapshot in include/rocksdb.
-use Rattle.std.specs.Prelude.{◌≡◌, ◌⊎◌, ℕ, ◌<◌, ◌≤◌, Some, List, slice_get}
+use Rattle.std.specs.Prelude.{◌≡◌, ◌⊎◌, ℕ, ◌<◌, ◌≤◌, Some, List, ◌++◌, length, slice_get}
 use Rattle.std.specs.Ordering.{nat_cmp}
 use Rattle.std.specs.Cmp.Lexicographic.{slice_cmp}
 use Rattle.std.specs.declared.cmp.Ordering.TheVariants.{Less}
@@ -17,6 +17,11 @@ IsUpToTarget user seq e = (slice_cmp nat_cmp e.user user ≡ Less) ⊎ ((e.user 
 -- the entry is of the user key, and the snapshot sees it
 abbrev pub IsSeen : List ℕ → ℕ → Entry → Type 0
 IsSeen user snapshot e = (e.user ≡ user) × (e.seq ≤ snapshot)
+
+-- the user key has a prefix of this length, and the entry's begins with it
+abbrev pub SharesPrefix : ℕ → List ℕ → Entry → Type 0
+SharesPrefix prefix user e =
+    (front : List ℕ) × (behind : List ℕ) × (rest : List ℕ) × (length front ≡ prefix) × (user ≡ front ++ behind) × (e.user ≡ front ++ rest)
 
 -- at the place stands an entry of which this holds
 abbrev pub StandsAt : (Entry → Type 0) → List Entry → ℕ → Type 0

@@ -29,7 +29,8 @@
 //! shows the entry where it lands; one that lands nowhere shows none.
 //!
 //! Plain tables lack Last, SeekForPrev and Prev, and cuckoo tables SeekForPrev; a call that is lacking leaves the
-//! position. A plain table whose prefixes have a length shows no entry of another prefix at a Seek.
+//! position. A plain table whose prefixes have a length shows no entry of another prefix at a Seek
+//! ([`seek_stays_within_a_prefix`]).
 //!
 //! # Example
 //!
@@ -57,7 +58,8 @@
 //! - In an ordered list Seek lands at the first entry that isn't before its target
 //!   ([`seek_lands_on_the_first_not_before`]), SeekForPrev at the last that is up to it
 //!   ([`seek_for_prev_lands_on_the_last_up_to`]), and Get shows the newest entry that the snapshot sees
-//!   ([`get_shows_the_newest`]). What a snapshot sees is what the Gets at it show ([`visible_is_what_gets_show`]).
+//!   ([`get_shows_the_newest`]). What a snapshot sees is what the Gets at it show, in order
+//!   ([`visible_is_what_gets_show`]).
 //! - First and then Next go through the whole list ([`first_and_next_go_through`]), and Last and then Prev back
 //!   ([`last_and_prev_go_back`]).
 //!
@@ -86,7 +88,7 @@ pub use keys::{cmp_internal, internal_order_is_entry_order, pack};
 pub use list_laws::{
     first_and_next_go_through, get_shows_the_newest, last_and_prev_go_back,
     seek_for_prev_lands_on_the_last_up_to, seek_lands_on_the_first_not_before,
-    targets_compare_as_said, visible_is_what_gets_show,
+    seek_stays_within_a_prefix, targets_compare_as_said, visible_is_what_gets_show,
 };
 pub use list_machine::{answer, target_cmp};
 pub use reading::{packed_is_unpacked, unpack};

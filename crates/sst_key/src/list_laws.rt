@@ -1,9 +1,10 @@
 ghost use Rattle.std.specs.Prelude.{◌≡◌, ℕ, ◌<◌, ◌≤◌, ◌↔◌, Option, Some, None, List, [], ◌∷◌, ◌++◌, length, map, replicate, reverse, false, slice_get, IsTrue, Contains, AllPairs};
 ghost use Rattle.sst_key.specs.Entry.{IsOrdered, tag};
-ghost use Rattle.sst_key.specs.ListMachine.{is_before_target, is_up_to_target, seek_of, seek_for_prev_of, get_of, lacks, lands, replies_from, visible};
-ghost use Rattle.sst_key.specs.ListLaws.{IsBeforeTarget, IsUpToTarget, IsSeen, StandsAt, IsFirstPlace, Each, EachAhead, EachBehind};
+ghost use Rattle.sst_key.specs.ListMachine.{is_before_target, is_up_to_target, seek_of, seek_for_prev_of, seek_in, get_of, lacks, lands, replies_from, visible};
+ghost use Rattle.sst_key.specs.ListLaws.{IsBeforeTarget, IsUpToTarget, IsSeen, SharesPrefix, StandsAt, IsFirstPlace, Each, EachAhead, EachBehind};
 ghost use Rattle.sst_key.specs.declared.entries.Entry.{Entry};
 ghost use Rattle.sst_key.specs.declared.calls.Format.{Format};
+ghost use Rattle.sst_key.specs.declared.calls.Format.TheVariants.{Plain};
 ghost use Rattle.sst_key.specs.declared.calls.Call.TheVariants.{First, Last, Next, Prev};
 ghost use Rattle.std.specs.List.{range_with_len};
 
@@ -73,7 +74,7 @@ pub fn last_and_prev_go_back()
         ≡ reverse (map (λ i. lands (Some i)) (range_with_len 0 (length entries))) ++ lands None ∷ [] }
 {}
 
-/// What a snapshot sees of a list is what the Gets at it show, and of each user key it is one entry at most.
+/// What a snapshot sees of a list is what the Gets at it show, in order, and of each user key it is one entry at most.
 ///
 /// RocksDB: `ReadOptions::snapshot` in include/rocksdb/options.h.
 pub fn visible_is_what_gets_show()
@@ -81,4 +82,18 @@ pub fn visible_is_what_gets_show()
         → Contains (visible entries snapshot) e
         ↔ ((user : List ℕ) × (i : ℕ) × (get_of entries user snapshot ≡ Some i) × (slice_get entries i ≡ Some e)) }
     ensures once { (entries : List Entry) (snapshot : ℕ) → AllPairs (λ a b. a.user ≡ b.user → ⊥) (visible entries snapshot) }
+    ensures ordered { (entries : List Entry) (snapshot : ℕ) → IsOrdered entries → IsOrdered (visible entries snapshot) }
+{}
+
+/// In a plain table whose prefixes have a length, Seek lands where it would in any other table, if the entry there has
+/// the target's prefix; else nowhere. Where prefixes have no length, and in the other formats, it lands as ever.
+///
+/// RocksDB: `PlainTableIterator::Seek` in table/plain/plain_table_reader.cc.
+pub fn seek_stays_within_a_prefix()
+    ensures within { (prefix : ℕ) (entries : List Entry) (user : List ℕ) (seq i : ℕ) → 0 < prefix
+        → (seek_in Plain prefix entries user seq ≡ Some i)
+        ↔ ((seek_of entries user seq ≡ Some i) × StandsAt (SharesPrefix prefix user) entries i) }
+    ensures without { (entries : List Entry) (user : List ℕ) (seq : ℕ) → seek_in Plain 0 entries user seq ≡ seek_of entries user seq }
+    ensures others { (format : Format) (prefix : ℕ) (entries : List Entry) (user : List ℕ) (seq : ℕ)
+        → (format ≡ Plain → ⊥) → seek_in format prefix entries user seq ≡ seek_of entries user seq }
 {}

@@ -1,8 +1,8 @@
 use crate::{
     Answer, Call, Entry, Format, Kind, Reply, Target, answer, first_and_next_go_through,
     get_shows_the_newest, last_and_prev_go_back, seek_for_prev_lands_on_the_last_up_to,
-    seek_lands_on_the_first_not_before, target_cmp, targets_compare_as_said,
-    visible_is_what_gets_show,
+    seek_lands_on_the_first_not_before, seek_stays_within_a_prefix, target_cmp,
+    targets_compare_as_said, visible_is_what_gets_show,
 };
 use sst_num::{Bytes, Memory};
 use std::alloc::Global;
@@ -189,6 +189,61 @@ fn a_plain_table(rt: HostRuntime) -> Result<(), Fail> {
     assert_eq!(rt;
         answer(entries, Format::Plain, 2, None, &short),
         nothing(Reply::None, None)
+    );
+    let whole = Call::Seek(target(rt.alloc(), b"ab", 9)?);
+    assert_eq!(rt; answer(entries, Format::Plain, 2, None, &whole), at(0));
+    seek_stays_within_a_prefix();
+    Ok(())
+}
+
+// What is lacking is told also from nowhere, before a step from nowhere is. A plain table shows an entry to a Get.
+#[test]
+fn a_plain_table_goes_on_alone(rt: HostRuntime) -> Result<(), Fail> {
+    let entries = &[entry(rt.alloc(), b"abX", 0)?, entry(rt.alloc(), b"abY", 0)?];
+    assert_eq!(rt;
+        answer(entries, Format::Plain, 2, None, &Call::Prev),
+        nothing(Reply::Lacks, None)
+    );
+    assert_eq!(rt;
+        answer(entries, Format::Plain, 2, None, &Call::Next),
+        nothing(Reply::NotPositioned, None)
+    );
+    let back = Call::SeekForPrev(target(rt.alloc(), b"abY", 0)?);
+    assert_eq!(rt;
+        answer(entries, Format::Plain, 0, Some(0), &back),
+        nothing(Reply::Lacks, Some(0))
+    );
+    let get = Call::Get(target(rt.alloc(), b"abY", 0)?);
+    assert_eq!(rt;
+        answer(entries, Format::Plain, 2, Some(0), &get),
+        Answer {
+            reply: Reply::Shown,
+            shown: Some(1),
+            position: Some(0),
+        }
+    );
+    Ok(())
+}
+
+// The length of prefixes is a plain table's alone. A cuckoo table has Get, Seek and Prev.
+#[test]
+fn no_prefixes_elsewhere(rt: HostRuntime) -> Result<(), Fail> {
+    let entries = &[entry(rt.alloc(), b"abX", 0)?, entry(rt.alloc(), b"abY", 0)?];
+    let other = Call::Seek(target(rt.alloc(), b"aa", 9)?);
+    assert_eq!(rt; answer(entries, Format::Block, 2, None, &other), at(0));
+    assert_eq!(rt; answer(entries, Format::Cuckoo, 2, None, &other), at(0));
+    let get = Call::Get(target(rt.alloc(), b"abY", 0)?);
+    assert_eq!(rt;
+        answer(entries, Format::Cuckoo, 0, None, &get),
+        Answer {
+            reply: Reply::Shown,
+            shown: Some(1),
+            position: None,
+        }
+    );
+    assert_eq!(rt;
+        answer(entries, Format::Cuckoo, 0, None, &Call::Prev),
+        nothing(Reply::NotPositioned, None)
     );
     Ok(())
 }

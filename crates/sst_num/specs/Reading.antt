@@ -1,6 +1,7 @@
 -- What the front of a list of bytes reads as: a number, or a block handle, and how many bytes it takes.
 -- RocksDB: util/coding.h (GetVarint32Ptr, GetVarint64, DecodeFixed64, and their kin), table/format.h
--- (BlockHandle::DecodeFrom). RocksDB also takes a varint that is longer than it need be; here it is refused.
+-- (BlockHandle::DecodeFrom). RocksDB also takes a varint that is longer than it need be, and one of ten bytes (five
+-- where 32 bits are read) whose number is too large: it drops the high bits. Here both are refused.
 use Rattle.std.specs.Prelude.{◌≡◌, ℕ, zero, suc, ◌+◌, ◌-◌, ◌*◌, ◌^◌, List, [], ◌∷◌, ◌++◌, length, drop, Bool, ◌&&◌, nat_lt, if◌then◌else◌, Option, Some, None, option_and_then, option_map}
 use Rattle.sst_num.specs.declared.block_handle.Handle.{Handle}
 use Rattle.sst_num.specs.Spelling.{varint, handle_spelling}

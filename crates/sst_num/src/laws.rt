@@ -1,6 +1,6 @@
-ghost use Rattle.std.specs.Prelude.{◌≡◌, ℕ, ◌<◌, ◌≤◌, ◌^◌, List, ◌++◌, length, Some};
+ghost use Rattle.std.specs.Prelude.{◌≡◌, ℕ, ◌<◌, ◌≤◌, ◌↔◌, ◌^◌, List, ◌++◌, length, Some};
 ghost use Rattle.sst_num.specs.Spelling.{varint, fixed, fixed_value, handle_spelling, IsVarint};
-ghost use Rattle.sst_num.specs.Reading.{varint_at, varint32_at, handle_at, fixed_at};
+ghost use Rattle.sst_num.specs.Reading.{varint_at, varint32_at, handle_at, fixed_at, StartsWithVarint, StartsWithHandle};
 ghost use Rattle.sst_num.specs.declared.block_handle.Handle.{Handle};
 
 /// What is written for a number below 2^64 is a spelling of it, of at most ten bytes.
@@ -59,4 +59,16 @@ pub fn varint32_is_taken_again()
 /// RocksDB: `BlockHandle::EncodeTo` and `BlockHandle::DecodeFrom` in table/format.cc.
 pub fn handle_is_taken_again()
     ensures { (h : Handle) (rest : List ℕ) → h.offset < 2 ^ 64 → h.size < 2 ^ 64 → handle_at (handle_spelling h ++ rest) ≡ Some (h, length (handle_spelling h)) }
+{}
+
+/// What is read at the front stands there, and is in range; and what stands there in range is read.
+///
+/// RocksDB: `GetVarint64` and `GetVarint32` in util/coding.h, `BlockHandle::DecodeFrom` in table/format.cc, and
+/// `DecodeFixed64` and its kin in util/coding_lean.h.
+pub fn what_is_read_stands_there()
+    ensures varint { (bytes : List ℕ) (v used : ℕ) → (varint_at bytes ≡ Some (v, used)) ↔ ((v < 2 ^ 64) × StartsWithVarint bytes v used) }
+    ensures varint32 { (bytes : List ℕ) (v used : ℕ) → (varint32_at bytes ≡ Some (v, used)) ↔ ((v < 2 ^ 32) × StartsWithVarint bytes v used) }
+    ensures handle { (bytes : List ℕ) (h : Handle) (used : ℕ)
+        → (handle_at bytes ≡ Some (h, used)) ↔ ((h.offset < 2 ^ 64) × (h.size < 2 ^ 64) × StartsWithHandle bytes h used) }
+    ensures fixed { (n v : ℕ) (bytes : List ℕ) → (fixed_at n bytes ≡ Some v) ↔ ((v < 256 ^ n) × ((rest : List ℕ) × (bytes ≡ fixed n v ++ rest))) }
 {}

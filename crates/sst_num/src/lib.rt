@@ -42,7 +42,8 @@
 //! - Each `take_` call reads the front of some bytes. It answers the value whose one spelling is there and
 //!   how many bytes that takes, or None exactly where there is none in range. What was put is taken again,
 //!   whatever follows ([`varint_is_taken_again`], [`varint32_is_taken_again`],
-//!   [`handle_is_taken_again`], [`fixed_is_taken_again`]).
+//!   [`handle_is_taken_again`], [`fixed_is_taken_again`]). Nothing else is taken: what is read stands there
+//!   ([`what_is_read_stands_there`]).
 //! - A varint takes at most ten bytes, is the only spelling of its number whose last byte isn't a needless
 //!   zero ([`varint_is_the_only_spelling`]), and begins no other ([`no_varint_begins_another`]). So
 //!   varints that follow one another need no mark between them.
@@ -52,7 +53,8 @@
 //! - [`Bytes`] is a list of bytes that owns its memory. [`Memory`] says that memory ran out; [`Refused`] that, or for which
 //!   cause the arguments were refused; [`Stop`] that, or what is wrong with a file, or that the device failed.
 //!
-//! RocksDB also takes a varint that is longer than it need be. Here it is refused.
+//! RocksDB also takes a varint that is longer than it need be, and one of ten bytes (five where 32 bits are
+//! read) whose number is too large: it drops the high bits. Here both are refused.
 //!
 //! RocksDB: util/coding.h and util/coding_lean.h; table/format.h (`BlockHandle`); the wiki page "Rocksdb
 //! BlockBasedTable Format".
@@ -72,7 +74,7 @@ pub use byte_list::Bytes;
 pub use laws::{
     fixed_is_taken_again, fixed_reads_back, handle_is_taken_again, no_varint_begins_another,
     varint_is_taken_again, varint_is_the_only_spelling, varint_is_the_spelling,
-    varint32_is_taken_again,
+    varint32_is_taken_again, what_is_read_stands_there,
 };
 pub use put::{put_fixed16, put_fixed32, put_fixed64, put_handle, put_varint32, put_varint64};
 pub use stops::{Memory, Refused, Stop};

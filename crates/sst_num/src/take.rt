@@ -41,7 +41,7 @@ fn take_groups(b: &[u8], most: usize) -> Option<(u64, usize)>
 ///
 /// None comes exactly where no number below 2^64 has its one spelling there: the bytes end too soon,
 /// the spelling is longer than it need be, or the number is too large. RocksDB: `GetVarint64Ptr` in
-/// util/coding.h, which also takes the longer spellings.
+/// util/coding.h, which also takes the longer spellings, and drops the bits of a tenth byte that are past 64.
 #[tactic(auto, unfolding(crate::specs::Reading::varint_at))]
 pub fn take_varint64(b: &[u8]) -> Option<(u64, usize)>
     ensures exact { result ≡ varint_at b.now }
@@ -54,7 +54,8 @@ pub fn take_varint64(b: &[u8]) -> Option<(u64, usize)>
 /// Reads a varint of 32 bits from the front: the number, and how many bytes it takes.
 ///
 /// None comes exactly where no number below 2^32 has its one spelling there. RocksDB: `GetVarint32Ptr`
-/// in util/coding.h, which also takes spellings that are longer than they need be.
+/// in util/coding.h, which also takes spellings that are longer than they need be, and drops the bits of a fifth byte
+/// that are past 32.
 #[tactic(auto, unfolding(crate::specs::Reading::varint32_at))]
 pub fn take_varint32(b: &[u8]) -> Option<(u32, usize)>
     ensures exact { result ≡ varint32_at b.now }

@@ -3,7 +3,7 @@ use crate::{
     fixed64, handle_is_taken_again, no_varint_begins_another, put_fixed16, put_fixed32,
     put_fixed64, put_handle, put_varint32, put_varint64, take_handle, take_varint32, take_varint64,
     varint_is_taken_again, varint_is_the_only_spelling, varint_is_the_spelling,
-    varint32_is_taken_again,
+    varint32_is_taken_again, what_is_read_stands_there,
 };
 use std::alloc::{AllocError, AllocFailed};
 use std::test::Fail;
@@ -89,6 +89,7 @@ fn varints_taken(rt: HostRuntime) -> Result<(), Fail> {
         assert_eq!(rt; take_varint64(bytes), taken);
     }
     varint_is_taken_again();
+    what_is_read_stands_there();
     Ok(())
 }
 
