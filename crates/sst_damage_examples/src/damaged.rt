@@ -1,51 +1,18 @@
 //! Damaged files: `sst calls FILE` where FILE is no block-based table, or is of a form that isn't built yet.
 //!
-//! Each row of a table is a file in pieces of hex digits, and what is printed behind `damage`. Most come of the file of
-//! the line `61 1 P 78` without properties, which has 119 bytes: the data block of 21 bytes is at 0, the index of 22 at
-//! 26, the metaindex of 8 at 53, each with a trailer of 5, and the footer is at 66. The faults are worked by hand from the
-//! layout. Where a block is changed its checksum was made anew, by an independent program.
+//! Each row of a table is a file in pieces of hex digits, and what is printed behind `damage`. Most come of the file that
+//! [`sst_worked_runs::small_file`] tells. The faults are worked by hand from the layout. Where a block is changed its
+//! checksum was made anew, by an independent program.
 //!
 //! RocksDB: `Footer::DecodeFrom` in table/format.cc and `BlockFetcher` in table/block_fetcher.cc.
-use crate::worked_run::{NAME, answered, holds, other_is_as_it_was, printed, put_hex};
 use sst_cli::Status;
+use sst_worked_runs::small_file::{
+    DATA, FRONT, INDEX, INDEX_ROW, MAGIC, METAINDEX, ONE_RESTART, ROW, TAIL, VERSION, ZEROS,
+};
+use sst_worked_runs::worked_run::{NAME, answered, holds, other_is_as_it_was, printed, put_hex};
 use std::alloc::Global;
 use std::process::Abort;
 use std::test::Fail;
-
-/// The row of the data block.
-pub(crate) const ROW: &str = "00090161010100000000000078";
-
-/// The end of a block whose one restart is 0.
-pub(crate) const ONE_RESTART: &str = "0000000001000000";
-
-/// The data block and its trailer.
-pub(crate) const DATA: &str = "0009016101010000000000007800000000010000000084dd8874";
-
-/// The row of the index: the key of the data block's row, and the handle of the data block.
-pub(crate) const INDEX_ROW: &str = "0009026101010000000000000015";
-
-/// The index and its trailer.
-pub(crate) const INDEX: &str = "0009026101010000000000000015000000000100000000364925bf";
-
-/// The metaindex, which has no row, and its trailer.
-pub(crate) const METAINDEX: &str = "000000000100000000c0f2a1b0";
-
-/// The front of the footer: the type of checksum, and the handles of the metaindex and the index.
-pub(crate) const FRONT: &str = "0135081a16";
-
-/// The zeros behind handles of four bytes.
-pub(crate) const ZEROS: &str =
-    "000000000000000000000000000000000000000000000000000000000000000000000000";
-
-/// The version, 2.
-pub(crate) const VERSION: &str = "02000000";
-
-/// The magic number of block-based tables.
-pub(crate) const MAGIC: &str = "f7cff485b741e288";
-
-/// What follows handles of four bytes in the footer: zeros, the version and the magic number.
-pub(crate) const TAIL: &str =
-    "00000000000000000000000000000000000000000000000000000000000000000000000002000000f7cff485b741e288";
 
 /// The magic numbers of files that aren't read: block-based tables of version 0,
 const LEGACY_MAGIC: &str = "57fb808b247547db";

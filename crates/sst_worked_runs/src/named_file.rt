@@ -6,7 +6,7 @@
 //! worked ones.
 //!
 //! RocksDB: `PropertyBlockBuilder` and `MetaIndexBuilder` in table/meta_blocks.cc.
-use crate::damaged::{DATA, INDEX, MAGIC, ONE_RESTART, VERSION};
+use crate::small_file::{DATA, INDEX, MAGIC, ONE_RESTART, VERSION};
 use crate::worked_run::put_hex;
 use sst_device::put_frame;
 use sst_num::{Handle, put_handle};
@@ -14,28 +14,28 @@ use std::alloc::Global;
 use std::test::Fail;
 
 /// The name in the metaindex of the properties.
-pub(crate) const PROPERTIES: &str = "rocksdb.properties";
+pub const PROPERTIES: &str = "rocksdb.properties";
 
 /// The name in the metaindex of the tombstones of ranges.
-pub(crate) const RANGE_DEL: &str = "rocksdb.range_del";
+pub const RANGE_DEL: &str = "rocksdb.range_del";
 
 /// The property that tells the type of the index.
-pub(crate) const INDEX_TYPE: &str = "rocksdb.block.based.table.index.type";
+pub const INDEX_TYPE: &str = "rocksdb.block.based.table.index.type";
 
 /// That of the order of user keys.
-pub(crate) const COMPARATOR: &str = "rocksdb.comparator";
+pub const COMPARATOR: &str = "rocksdb.comparator";
 
 /// That of the sequence number of all entries.
-pub(crate) const GLOBAL: &str = "rocksdb.external_sst_file.global_seqno";
+pub const GLOBAL: &str = "rocksdb.external_sst_file.global_seqno";
 
 /// That of the version of a file made outside a database.
-pub(crate) const EXTERNAL: &str = "rocksdb.external_sst_file.version";
+pub const EXTERNAL: &str = "rocksdb.external_sst_file.version";
 
 /// That of the flag for user keys in the index.
-pub(crate) const USER_KEY: &str = "rocksdb.index.key.is.user.key";
+pub const USER_KEY: &str = "rocksdb.index.key.is.user.key";
 
 /// That of the flag for differences of handles in the index.
-pub(crate) const DELTA: &str = "rocksdb.index.value.is.delta.encoded";
+pub const DELTA: &str = "rocksdb.index.value.is.delta.encoded";
 
 /// The handle of the index.
 const INDEX_HANDLE: Handle = Handle {
@@ -54,7 +54,7 @@ fn put_row(alloc: Global, block: &mut Vec<u8>, name: &str, value: &str) -> Resul
 }
 
 /// The block of these names and values, which are told in hex digits.
-pub(crate) fn names_block(alloc: Global, pairs: &[(&str, &str)]) -> Result<Vec<u8>, Fail> {
+pub fn names_block(alloc: Global, pairs: &[(&str, &str)]) -> Result<Vec<u8>, Fail> {
     let mut block = Vec::new(alloc);
     for (name, value) in pairs {
         put_row(alloc, &mut block, name, value)?;
@@ -105,12 +105,12 @@ fn put_named(alloc: Global, file: &mut Vec<u8>, block: &[u8]) -> Result<(), Fail
 }
 
 /// The file with these properties.
-pub(crate) fn file_with(alloc: Global, pairs: &[(&str, &str)]) -> Result<Vec<u8>, Fail> {
+pub fn file_with(alloc: Global, pairs: &[(&str, &str)]) -> Result<Vec<u8>, Fail> {
     file_with_index(alloc, &[INDEX], pairs)
 }
 
 /// The same with other bytes for the index and its trailer.
-pub(crate) fn file_with_index(
+pub fn file_with_index(
     alloc: Global,
     index: &[&str],
     pairs: &[(&str, &str)],
@@ -124,7 +124,7 @@ pub(crate) fn file_with_index(
 }
 
 /// The file whose block of properties has these bytes.
-pub(crate) fn file_with_block(alloc: Global, pieces: &[&str]) -> Result<Vec<u8>, Fail> {
+pub fn file_with_block(alloc: Global, pieces: &[&str]) -> Result<Vec<u8>, Fail> {
     let mut file = Vec::new(alloc);
     put_hex(alloc, &mut file, &[DATA, INDEX])?;
     let mut block = Vec::new(alloc);
@@ -134,7 +134,7 @@ pub(crate) fn file_with_block(alloc: Global, pieces: &[&str]) -> Result<Vec<u8>,
 }
 
 /// The file whose metaindex has these names. A block without properties, of 8 bytes, stands at 53.
-pub(crate) fn file_with_names(alloc: Global, pairs: &[(&str, &str)]) -> Result<Vec<u8>, Fail> {
+pub fn file_with_names(alloc: Global, pairs: &[(&str, &str)]) -> Result<Vec<u8>, Fail> {
     let mut file = Vec::new(alloc);
     put_hex(alloc, &mut file, &[DATA, INDEX])?;
     put_frame(&mut file, &names_block(alloc, &[])?)?;

@@ -5,23 +5,18 @@
 //!
 //! RocksDB: `BlockBasedTableIterator` in table/block_based/block_based_table_iterator.cc; the separators that a writer may
 //! choose are in table/block_based/index_builder.h.
-use crate::calls::{ON_SHARING, assert_answered};
-use crate::worked_run::put_hex;
+use crate::calls::ON_SHARING;
+use sst_worked_runs::asserting::assert_answered;
+use sst_worked_runs::worked_run::put_hex;
 use std::alloc::Global;
-use std::process::Abort;
 use std::test::Fail;
 
 /// Asserts that the calls are answered from the file in these pieces.
-fn assert_all(
-    rt: &impl Abort,
-    alloc: Global,
-    pieces: &[&str],
-    rows: &[(&str, &str)],
-) -> Result<(), Fail> {
+fn assert_all(alloc: Global, pieces: &[&str], rows: &[(&str, &str)]) -> Result<(), Fail> {
     let mut file = Vec::new(alloc);
     put_hex(alloc, &mut file, pieces)?;
     for (calls, text) in rows {
-        assert_answered(rt, alloc, &file, calls, text)?;
+        assert_answered(alloc, &file, calls, text)?;
     }
     Ok(())
 }
@@ -110,7 +105,7 @@ static FOREIGN: [&[&str]; 3] = [
 #[test]
 fn files_from_another_writer(rt: HostRuntime) -> Result<(), Fail> {
     for pieces in FOREIGN {
-        assert_all(&rt, rt.alloc(), pieces, &ON_SHARING)?;
+        assert_all(rt.alloc(), pieces, &ON_SHARING)?;
     }
     Ok(())
 }
@@ -163,7 +158,7 @@ static ON_BEHIND_SEPARATORS: [(&str, &str); 4] = [
 
 #[test]
 fn entries_behind_separators(rt: HostRuntime) -> Result<(), Fail> {
-    assert_all(&rt, rt.alloc(), &BEHIND_SEPARATORS, &ON_BEHIND_SEPARATORS)
+    assert_all(rt.alloc(), &BEHIND_SEPARATORS, &ON_BEHIND_SEPARATORS)
 }
 
 /// A file with the one data block of `61 1 P 78`, to which two rows of the index lead: the user keys of their separators
@@ -203,5 +198,5 @@ static ON_ONE_BLOCK_TWICE: [(&str, &str); 3] = [
 
 #[test]
 fn one_block_twice(rt: HostRuntime) -> Result<(), Fail> {
-    assert_all(&rt, rt.alloc(), &ONE_BLOCK_TWICE, &ON_ONE_BLOCK_TWICE)
+    assert_all(rt.alloc(), &ONE_BLOCK_TWICE, &ON_ONE_BLOCK_TWICE)
 }

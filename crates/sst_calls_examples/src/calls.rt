@@ -5,53 +5,11 @@
 //!
 //! RocksDB: `DB::Get` in include/rocksdb/db.h and `Iterator` in include/rocksdb/iterator.h; what other writers may
 //! choose in a block is in table/block_based/block_builder.cc.
-use crate::one_block::bare_file;
-use crate::worked_run::{
-    NAME, Ran, answered, holds, other_is_as_it_was, printed, put_hex, still_to_come, written,
-    written_with,
-};
-use sst_cli::Status;
+use sst_worked_runs::asserting::assert_answered;
+use sst_worked_runs::small_file::bare_file;
+use sst_worked_runs::worked_run::{file_of_lines, put_hex};
 use std::alloc::Global;
-use std::process::Abort;
 use std::test::Fail;
-
-/// The file that a run left, or no byte where it left none.
-fn file_left(alloc: Global, ran: &Ran) -> Result<Vec<u8>, Fail> {
-    match ran.folder.file(NAME) {
-        Some(file) => Ok(Vec::from_slice(alloc, file)?),
-        None => Ok(Vec::new(alloc)),
-    }
-}
-
-/// The file that is written for these lines.
-pub(crate) fn file_of_lines(alloc: Global, lines: &str) -> Result<Vec<u8>, Fail> {
-    let ran = written(alloc, lines.as_bytes())?;
-    file_left(alloc, &ran)
-}
-
-/// The file that is written for these lines with this option.
-pub(crate) fn file_in_blocks(alloc: Global, option: &str, lines: &str) -> Result<Vec<u8>, Fail> {
-    let ran = written_with(alloc, option, lines.as_bytes())?;
-    file_left(alloc, &ran)
-}
-
-/// Asserts that the calls are answered from the file with this text, that the input is read to its end, and that no
-/// file changes.
-pub(crate) fn assert_answered(
-    rt: &impl Abort,
-    alloc: Global,
-    file: &[u8],
-    calls: &str,
-    text: &str,
-) -> Result<(), Fail> {
-    let mut ran = answered(alloc, file, calls.as_bytes())?;
-    assert_eq!(rt; ran.status, Status::Done, "on {calls}");
-    assert!(rt; printed(&ran, text), "on {calls}");
-    assert!(rt; holds(&ran, NAME, file), "on {calls}");
-    assert!(rt; other_is_as_it_was(&ran), "on {calls}");
-    assert!(rt; still_to_come(&mut ran, ""), "on {calls}");
-    Ok(())
-}
 
 #[test]
 fn the_worked_example(rt: HostRuntime) -> Result<(), Fail> {
@@ -60,8 +18,8 @@ fn the_worked_example(rt: HostRuntime) -> Result<(), Fail> {
     for file in [&bare, &written] {
         let calls = "get 61 1\nget 61 0\nfirst\nnext\n";
         let text = "61 1 P 78\nnone\n61 1 P 78\nnone\n";
-        assert_answered(&rt, rt.alloc(), file, calls, text)?;
-        assert_answered(&rt, rt.alloc(), file, "", "")?;
+        assert_answered(rt.alloc(), file, calls, text)?;
+        assert_answered(rt.alloc(), file, "", "")?;
     }
     Ok(())
 }
@@ -83,7 +41,7 @@ fn the_empty_list(rt: HostRuntime) -> Result<(), Fail> {
             "none\nnot-positioned\nnone\nnot-positioned\n",
         ),
     ] {
-        assert_answered(&rt, rt.alloc(), &file, calls, text)?;
+        assert_answered(rt.alloc(), &file, calls, text)?;
     }
     Ok(())
 }
@@ -173,8 +131,8 @@ fn seventeen_entries(rt: HostRuntime) -> Result<(), Fail> {
     let lines = seventeen_lines(rt.alloc())?;
     let written = file_of_lines(rt.alloc(), lines.as_str())?;
     for (calls, text) in ON_SEVENTEEN {
-        assert_answered(&rt, rt.alloc(), &bare, calls, text)?;
-        assert_answered(&rt, rt.alloc(), &written, calls, text)?;
+        assert_answered(rt.alloc(), &bare, calls, text)?;
+        assert_answered(rt.alloc(), &written, calls, text)?;
     }
     Ok(())
 }
@@ -216,7 +174,7 @@ static ON_LISTS: [(&str, &str, &str); 5] = [
 fn lists(rt: HostRuntime) -> Result<(), Fail> {
     for (lines, calls, text) in ON_LISTS {
         let file = file_of_lines(rt.alloc(), lines)?;
-        assert_answered(&rt, rt.alloc(), &file, calls, text)?;
+        assert_answered(rt.alloc(), &file, calls, text)?;
     }
     Ok(())
 }
@@ -352,11 +310,11 @@ pub(crate) static ON_SHARING: [(&str, &str); 3] = [
 fn files_from_another_writer(rt: HostRuntime) -> Result<(), Fail> {
     let ours = file_of_lines(rt.alloc(), SHARING)?;
     for (calls, text) in ON_SHARING {
-        assert_answered(&rt, rt.alloc(), &ours, calls, text)?;
+        assert_answered(rt.alloc(), &ours, calls, text)?;
         for pieces in FOREIGN {
             let mut file = Vec::new(rt.alloc());
             put_hex(rt.alloc(), &mut file, pieces)?;
-            assert_answered(&rt, rt.alloc(), &file, calls, text)?;
+            assert_answered(rt.alloc(), &file, calls, text)?;
         }
     }
     Ok(())
@@ -410,7 +368,7 @@ fn entries_behind_the_separator(rt: HostRuntime) -> Result<(), Fail> {
     let mut file = Vec::new(rt.alloc());
     put_hex(rt.alloc(), &mut file, &BEHIND_SEPARATOR)?;
     for (calls, text) in ON_BEHIND_SEPARATOR {
-        assert_answered(&rt, rt.alloc(), &file, calls, text)?;
+        assert_answered(rt.alloc(), &file, calls, text)?;
     }
     Ok(())
 }

@@ -1,22 +1,21 @@
 //! Files of the line `61 1 P 78` with names that a reader passes by, or whose values are good.
 //!
 //! RocksDB: `ReadPropertiesHelper` in table/meta_blocks.cc keeps names that it doesn't know.
-use crate::calls::assert_answered;
-use crate::damaged::{DATA, INDEX, ONE_RESTART, TAIL};
-use crate::named_file::{
+use sst_worked_runs::asserting::assert_answered;
+use sst_worked_runs::named_file::{
     COMPARATOR, DELTA, EXTERNAL, GLOBAL, INDEX_TYPE, PROPERTIES, USER_KEY, file_with,
     file_with_names,
 };
-use crate::worked_run::put_hex;
+use sst_worked_runs::small_file::{DATA, INDEX, ONE_RESTART, TAIL};
+use sst_worked_runs::worked_run::put_hex;
 use std::alloc::Global;
-use std::process::Abort;
 use std::test::Fail;
 
 /// Asserts that the one entry is read from the file.
-fn assert_read(rt: &impl Abort, alloc: Global, file: &[u8]) -> Result<(), Fail> {
+fn assert_read(alloc: Global, file: &[u8]) -> Result<(), Fail> {
     let calls = "get 61 1\nget 61 0\nfirst\nnext\n";
     let text = "61 1 P 78\nnone\n61 1 P 78\nnone\n";
-    assert_answered(rt, alloc, file, calls, text)
+    assert_answered(alloc, file, calls, text)
 }
 
 /// Properties that are good, in the order of their names.
@@ -48,7 +47,7 @@ static GOOD: [&[(&str, &str)]; 11] = [
 fn good_properties(rt: HostRuntime) -> Result<(), Fail> {
     for pairs in GOOD {
         let file = file_with(rt.alloc(), pairs)?;
-        assert_read(&rt, rt.alloc(), &file)?;
+        assert_read(rt.alloc(), &file)?;
     }
     Ok(())
 }
@@ -72,7 +71,7 @@ static METAINDEXES: [&[(&str, &str)]; 7] = [
 fn other_metaindexes(rt: HostRuntime) -> Result<(), Fail> {
     for pairs in METAINDEXES {
         let file = file_with_names(rt.alloc(), pairs)?;
-        assert_read(&rt, rt.alloc(), &file)?;
+        assert_read(rt.alloc(), &file)?;
     }
     Ok(())
 }
@@ -100,7 +99,7 @@ fn properties_in_digits(rt: HostRuntime) -> Result<(), Fail> {
             TAIL,
         ],
     )?;
-    assert_read(&rt, rt.alloc(), &file)?;
+    assert_read(rt.alloc(), &file)?;
     let pairs = [(
         COMPARATOR,
         "6c6576656c64622e4279746577697365436f6d70617261746f72",

@@ -6,14 +6,14 @@
 //!
 //! RocksDB: `FlushBlockBySizePolicy` in table/block_based/flush_block_policy.cc, `BlockBasedTableBuilder::Add` and
 //! `Flush` in table/block_based/block_based_table_builder.cc.
-use crate::calls::{assert_answered, file_in_blocks};
 use crate::lists::numbered_lines;
-use crate::worked_run::{
-    NAME, Object, answered_with, failing_at, holds, other_is_as_it_was, printed, put_hex,
-    written_with,
-};
 use crate::written_file::{Behind, put_behind};
 use sst_cli::Status;
+use sst_worked_runs::asserting::assert_answered;
+use sst_worked_runs::worked_run::{
+    NAME, Object, answered_with, failing_at, file_in_blocks, holds, other_is_as_it_was, printed,
+    put_hex, written_with,
+};
 use std::alloc::Global;
 use std::process::Abort;
 use std::test::Fail;
@@ -139,7 +139,7 @@ fn calls_on_versions(rt: HostRuntime) -> Result<(), Fail> {
     }
     for option in ["block=64", "block=4096"] {
         let file = file_in_blocks(rt.alloc(), option, lines.as_str())?;
-        assert_answered(&rt, rt.alloc(), &file, calls.as_str(), text.as_str())?;
+        assert_answered(rt.alloc(), &file, calls.as_str(), text.as_str())?;
     }
     Ok(())
 }
@@ -292,7 +292,7 @@ fn the_greatest_keys(rt: HostRuntime) -> Result<(), Fail> {
         )?;
         for option in ["block=64", "block=4096"] {
             let file = file_in_blocks(rt.alloc(), option, lines.as_str())?;
-            assert_answered(&rt, rt.alloc(), &file, calls, text.as_str())?;
+            assert_answered(rt.alloc(), &file, calls, text.as_str())?;
         }
     }
     Ok(())

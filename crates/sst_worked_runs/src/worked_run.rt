@@ -5,13 +5,13 @@ use std::alloc::Global;
 use std::test::Fail;
 
 /// The file that is written.
-pub(crate) const NAME: &str = "one.sst";
+pub const NAME: &str = "one.sst";
 
 /// The words that write it.
-pub(crate) const WORDS: [&str; 3] = ["write", "block", NAME];
+pub const WORDS: [&str; 3] = ["write", "block", NAME];
 
 /// The words that answer calls from it.
-pub(crate) const CALLS: [&str; 2] = ["calls", NAME];
+pub const CALLS: [&str; 2] = ["calls", NAME];
 
 /// The file that stands in the folder before each run.
 const OTHER: &str = "other.sst";
@@ -21,14 +21,14 @@ const OTHER_BYTES: &str = "12345678";
 
 /// The numbers of the calls that fail, counted from 1 for each object.
 #[derive(Clone, Copy, Debug)]
-pub(crate) struct Failing<'a> {
-    pub(crate) folder: &'a [u64],
-    pub(crate) intake: &'a [u64],
-    pub(crate) sink: &'a [u64],
+pub struct Failing<'a> {
+    pub folder: &'a [u64],
+    pub intake: &'a [u64],
+    pub sink: &'a [u64],
 }
 
 /// No call fails.
-pub(crate) const NONE_FAILS: Failing<'static> = Failing {
+pub const NONE_FAILS: Failing<'static> = Failing {
     folder: &[],
     intake: &[],
     sink: &[],
@@ -36,14 +36,14 @@ pub(crate) const NONE_FAILS: Failing<'static> = Failing {
 
 /// The objects whose calls fail.
 #[derive(Clone, Copy, Debug, PartialEq, Eq)]
-pub(crate) enum Object {
+pub enum Object {
     Folder,
     Intake,
     Sink,
 }
 
 /// The calls of one object with these numbers fail.
-pub(crate) fn failing_at(object: Object, numbers: &[u64]) -> Failing<'_> {
+pub fn failing_at(object: Object, numbers: &[u64]) -> Failing<'_> {
     let mut failing = NONE_FAILS;
     match object {
         Object::Folder => failing.folder = numbers,
@@ -55,15 +55,15 @@ pub(crate) fn failing_at(object: Object, numbers: &[u64]) -> Failing<'_> {
 
 /// How a run ended, and what it left.
 #[derive(Debug, Drop)]
-pub(crate) struct Ran {
-    pub(crate) status: Status,
-    pub(crate) folder: MemFolder,
-    pub(crate) intake: MemIntake,
-    pub(crate) sink: MemSink,
+pub struct Ran {
+    pub status: Status,
+    pub folder: MemFolder,
+    pub intake: MemIntake,
+    pub sink: MemSink,
 }
 
 /// The words as the program is handed them.
-pub(crate) fn owned(alloc: Global, words: &[&str]) -> Result<Vec<String>, Fail> {
+pub fn owned(alloc: Global, words: &[&str]) -> Result<Vec<String>, Fail> {
     let mut strings = Vec::new(alloc);
     for word in words {
         strings.push(String::from_str(alloc, word)?)?;
@@ -72,7 +72,7 @@ pub(crate) fn owned(alloc: Global, words: &[&str]) -> Result<Vec<String>, Fail> 
 }
 
 /// Runs the program on these words and this input, beside the other file.
-pub(crate) fn run_on(
+pub fn run_on(
     alloc: Global,
     words: &[&str],
     input: &[u8],
@@ -85,17 +85,37 @@ pub(crate) fn run_on(
 }
 
 /// Runs the command that writes a file on an input, with no call outside that fails.
-pub(crate) fn written(alloc: Global, input: &[u8]) -> Result<Ran, Fail> {
+pub fn written(alloc: Global, input: &[u8]) -> Result<Ran, Fail> {
     run_on(alloc, &WORDS, input, NONE_FAILS)
 }
 
 /// Runs the command that writes a file with this option.
-pub(crate) fn written_with(alloc: Global, option: &str, input: &[u8]) -> Result<Ran, Fail> {
+pub fn written_with(alloc: Global, option: &str, input: &[u8]) -> Result<Ran, Fail> {
     run_on(alloc, &["write", "block", NAME, option], input, NONE_FAILS)
 }
 
+/// The file that a run left, or no byte where it left none.
+fn file_left(alloc: Global, ran: &Ran) -> Result<Vec<u8>, Fail> {
+    match ran.folder.file(NAME) {
+        Some(file) => Ok(Vec::from_slice(alloc, file)?),
+        None => Ok(Vec::new(alloc)),
+    }
+}
+
+/// The file that is written for these lines.
+pub fn file_of_lines(alloc: Global, lines: &str) -> Result<Vec<u8>, Fail> {
+    let ran = written(alloc, lines.as_bytes())?;
+    file_left(alloc, &ran)
+}
+
+/// The file that is written for these lines with this option.
+pub fn file_in_blocks(alloc: Global, option: &str, lines: &str) -> Result<Vec<u8>, Fail> {
+    let ran = written_with(alloc, option, lines.as_bytes())?;
+    file_left(alloc, &ran)
+}
+
 /// Runs the command that answers calls from a file of these bytes.
-pub(crate) fn answered_with(
+pub fn answered_with(
     alloc: Global,
     file: &[u8],
     input: &[u8],
@@ -109,16 +129,12 @@ pub(crate) fn answered_with(
 }
 
 /// Runs the command that answers calls from a file of these bytes, with no call outside that fails.
-pub(crate) fn answered(alloc: Global, file: &[u8], input: &[u8]) -> Result<Ran, Fail> {
+pub fn answered(alloc: Global, file: &[u8], input: &[u8]) -> Result<Ran, Fail> {
     answered_with(alloc, file, input, NONE_FAILS)
 }
 
 /// Runs the program over an output whose first call takes nothing.
-pub(crate) fn run_with_stuck_sink(
-    alloc: Global,
-    words: &[&str],
-    input: &[u8],
-) -> Result<Ran, Fail> {
+pub fn run_with_stuck_sink(alloc: Global, words: &[&str], input: &[u8]) -> Result<Ran, Fail> {
     let folder = MemFolder::new(alloc, &[])?;
     let intake = MemIntake::new(alloc, input, &[])?;
     let sink = MemSink::stuck(alloc, &[1])?;
@@ -126,11 +142,7 @@ pub(crate) fn run_with_stuck_sink(
 }
 
 /// Runs the command that answers calls from a file of these bytes, over an output whose first call takes nothing.
-pub(crate) fn answered_with_stuck_sink(
-    alloc: Global,
-    file: &[u8],
-    input: &[u8],
-) -> Result<Ran, Fail> {
+pub fn answered_with_stuck_sink(alloc: Global, file: &[u8], input: &[u8]) -> Result<Ran, Fail> {
     let mut folder = MemFolder::new(alloc, &[])?;
     folder.put_file(NAME, file)?;
     let intake = MemIntake::new(alloc, input, &[])?;
@@ -158,7 +170,7 @@ fn run_over(
 }
 
 /// Appends the bytes that hex digits spell.
-pub(crate) fn put_hex(alloc: Global, bytes: &mut Vec<u8>, digits: &[&str]) -> Result<(), Fail> {
+pub fn put_hex(alloc: Global, bytes: &mut Vec<u8>, digits: &[&str]) -> Result<(), Fail> {
     for piece in digits {
         let piece = hex::decode(alloc, piece.as_bytes())?;
         bytes.extend_from_slice(&piece)?;
@@ -167,7 +179,7 @@ pub(crate) fn put_hex(alloc: Global, bytes: &mut Vec<u8>, digits: &[&str]) -> Re
 }
 
 /// Whether the named file holds these bytes.
-pub(crate) fn holds(ran: &Ran, name: &str, bytes: &[u8]) -> bool {
+pub fn holds(ran: &Ran, name: &str, bytes: &[u8]) -> bool {
     match ran.folder.file(name) {
         Some(found) => found == bytes,
         None => false,
@@ -175,12 +187,12 @@ pub(crate) fn holds(ran: &Ran, name: &str, bytes: &[u8]) -> bool {
 }
 
 /// Whether this was printed, and nothing else.
-pub(crate) fn printed(ran: &Ran, text: &str) -> bool {
+pub fn printed(ran: &Ran, text: &str) -> bool {
     ran.sink.bytes() == text.as_bytes()
 }
 
 /// Whether this is what the input still has to give.
-pub(crate) fn still_to_come(ran: &mut Ran, text: &str) -> bool {
+pub fn still_to_come(ran: &mut Ran, text: &str) -> bool {
     let mut room = [0; 64];
     match ran.intake.take(&mut room) {
         Ok(n) => room.get(..n) == Some(text.as_bytes()),
@@ -189,7 +201,7 @@ pub(crate) fn still_to_come(ran: &mut Ran, text: &str) -> bool {
 }
 
 /// Whether the input was refused with this text, and the other file is as it was.
-pub(crate) fn refused(ran: &Ran, text: &str) -> bool {
+pub fn refused(ran: &Ran, text: &str) -> bool {
     if ran.status != Status::Input {
         return false;
     }
@@ -200,21 +212,6 @@ pub(crate) fn refused(ran: &Ran, text: &str) -> bool {
 }
 
 /// Whether the other file is as it was.
-pub(crate) fn other_is_as_it_was(ran: &Ran) -> bool {
+pub fn other_is_as_it_was(ran: &Ran) -> bool {
     holds(ran, OTHER, OTHER_BYTES.as_bytes())
-}
-
-#[test]
-fn the_number_of_each_status(rt: HostRuntime) {
-    for (status, number) in [
-        (Status::Done, 0),
-        (Status::Usage, 1),
-        (Status::Input, 2),
-        (Status::File, 3),
-        (Status::Exhausted, 4),
-        (Status::Device, 5),
-        (Status::Memory, 6),
-    ] {
-        assert_eq!(rt; status as u8, number);
-    }
 }

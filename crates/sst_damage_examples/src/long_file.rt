@@ -1,9 +1,9 @@
 //! A file of 2^40 bytes isn't read, and one of a byte less is.
 //!
 //! No such file is made: a folder that tells nothing says how long each of its files is, and fails to read them.
-use crate::worked_run::{CALLS, owned};
 use sst_cli::{Status, run};
 use sst_device::{DevStop, Folder, MemIntake, MemSink};
+use sst_worked_runs::worked_run::{CALLS, owned};
 use std::alloc::Global;
 use std::test::Fail;
 

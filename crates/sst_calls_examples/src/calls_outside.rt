@@ -2,13 +2,13 @@
 //! outside that fail.
 //!
 //! The texts are worked by hand. They are this project's own.
-use crate::calls::file_of_lines;
-use crate::one_block::{assert_no_command, bare_file};
-use crate::worked_run::{
-    CALLS, NAME, NONE_FAILS, Object, Ran, answered, answered_with, answered_with_stuck_sink,
-    failing_at, holds, other_is_as_it_was, printed, refused, run_on, still_to_come,
-};
 use sst_cli::Status;
+use sst_worked_runs::asserting::assert_no_command;
+use sst_worked_runs::small_file::bare_file;
+use sst_worked_runs::worked_run::{
+    CALLS, NAME, NONE_FAILS, Object, Ran, answered, answered_with, answered_with_stuck_sink,
+    failing_at, file_of_lines, holds, other_is_as_it_was, printed, refused, run_on, still_to_come,
+};
 use std::alloc::Global;
 use std::process::Abort;
 use std::test::Fail;
@@ -32,7 +32,7 @@ static NO_COMMANDS: [&[&str]; 9] = [
 #[test]
 fn words_that_are_no_command(rt: HostRuntime) -> Result<(), Fail> {
     for words in NO_COMMANDS {
-        assert_no_command(&rt, rt.alloc(), words, LINE)?;
+        assert_no_command(rt.alloc(), words, LINE)?;
     }
     Ok(())
 }

@@ -1,11 +1,12 @@
 //! The option for the size of data blocks: `sst write block OUT block=N`, where N is 64 to 16,777,216.
 //!
 //! The words are this project's own. RocksDB: `BlockBasedTableOptions::block_size` in include/rocksdb/table.h.
-use crate::one_block::{assert_no_command, written_file};
-use crate::worked_run::{
+use crate::one_block::written_file;
+use sst_cli::Status;
+use sst_worked_runs::asserting::assert_no_command;
+use sst_worked_runs::worked_run::{
     NAME, NONE_FAILS, holds, other_is_as_it_was, printed, run_on, still_to_come, written_with,
 };
-use sst_cli::Status;
 use std::test::Fail;
 
 /// A good input.
@@ -75,7 +76,7 @@ static NO_OPTIONS: [&str; 30] = [
 fn words_that_are_no_option(rt: HostRuntime) -> Result<(), Fail> {
     for word in NO_OPTIONS {
         let words = ["write", "block", NAME, word];
-        assert_no_command(&rt, rt.alloc(), &words, LINE)?;
+        assert_no_command(rt.alloc(), &words, LINE)?;
     }
     Ok(())
 }
@@ -103,7 +104,7 @@ static NO_COMMANDS: [&[&str]; 7] = [
 #[test]
 fn options_at_other_places(rt: HostRuntime) -> Result<(), Fail> {
     for words in NO_COMMANDS {
-        assert_no_command(&rt, rt.alloc(), words, LINE)?;
+        assert_no_command(rt.alloc(), words, LINE)?;
     }
     Ok(())
 }

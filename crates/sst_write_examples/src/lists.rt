@@ -6,9 +6,11 @@
 //! RocksDB: `BlockBuilder` in table/block_based/block_builder.cc (a restart at each 16 rows), `InternalKeyComparator`
 //! in db/dbformat.h.
 use crate::one_block::line_of;
-use crate::worked_run::{NAME, Ran, holds, other_is_as_it_was, printed, put_hex, refused, written};
 use crate::written_file::{Behind, put_behind};
 use sst_cli::Status;
+use sst_worked_runs::worked_run::{
+    NAME, Ran, holds, other_is_as_it_was, printed, put_hex, refused, written,
+};
 use std::alloc::Global;
 use std::process::Abort;
 use std::test::Fail;

@@ -4,12 +4,13 @@
 //! comments beside them.
 //!
 //! RocksDB: `BlockBuilder` in table/block_based/block_builder.cc, `FooterBuilder::Build` in table/format.cc.
-use crate::worked_run::{
-    NAME, NONE_FAILS, Object, Ran, WORDS, failing_at, holds, other_is_as_it_was, printed, put_hex,
-    refused, run_on, run_with_stuck_sink, still_to_come, written,
-};
 use crate::written_file::{Behind, put_behind};
 use sst_cli::Status;
+use sst_worked_runs::asserting::assert_no_command;
+use sst_worked_runs::worked_run::{
+    NAME, Object, Ran, WORDS, failing_at, holds, other_is_as_it_was, printed, put_hex, refused,
+    run_on, run_with_stuck_sink, written,
+};
 use std::alloc::Global;
 use std::process::Abort;
 use std::test::Fail;
@@ -117,22 +118,6 @@ pub(crate) fn written_file(alloc: Global) -> Result<Vec<u8>, Fail> {
     file_of(alloc, &ONE_ENTRY, &BEHIND_ENTRY)
 }
 
-/// The file of the line `61 1 P 78` without properties, as it was written before there were any: 119 bytes. Its
-/// metaindex of 8 bytes stands at 53, and has no row.
-pub(crate) fn bare_file(alloc: Global) -> Result<Vec<u8>, Fail> {
-    let mut file = Vec::new(alloc);
-    put_front(alloc, &mut file, &ONE_ENTRY)?;
-    let metaindex_block = [ONE_RESTART, NO_COMPRESSION, "c0f2a1b0"];
-    put_hex(alloc, &mut file, &metaindex_block)?;
-    // The footer: the kind of checksum, the handles, 36 zeros, the version, and the magic number.
-    let footer = ["01", "35081a16", ZEROS, "02000000", "f7cff485b741e288"];
-    put_hex(alloc, &mut file, &footer)?;
-    Ok(file)
-}
-
-/// The zeros that fill the front of a footer up to 41 bytes, after handles of four bytes.
-const ZEROS: &str = "000000000000000000000000000000000000000000000000000000000000000000000000";
-
 #[test]
 fn the_file_of_a_line(rt: HostRuntime) -> Result<(), Fail> {
     for (input, parts, behind, length) in [
@@ -224,26 +209,10 @@ static NO_COMMANDS: [&[&str]; 9] = [
     &["", "write", "block", NAME],
 ];
 
-/// Asserts that the words are no command: nothing is touched but the output.
-pub(crate) fn assert_no_command(
-    rt: &impl Abort,
-    alloc: Global,
-    words: &[&str],
-    input: &str,
-) -> Result<(), Fail> {
-    let mut ran = run_on(alloc, words, input.as_bytes(), NONE_FAILS)?;
-    assert_eq!(rt; ran.status, Status::Usage, "on {words:?}");
-    assert!(rt; printed(&ran, "usage\n"), "on {words:?}");
-    assert!(rt; ran.folder.file(NAME).is_none(), "on {words:?}");
-    assert!(rt; other_is_as_it_was(&ran), "on {words:?}");
-    assert!(rt; still_to_come(&mut ran, input), "on {words:?}");
-    Ok(())
-}
-
 #[test]
 fn words_that_are_no_command(rt: HostRuntime) -> Result<(), Fail> {
     for words in NO_COMMANDS {
-        assert_no_command(&rt, rt.alloc(), words, LINE)?;
+        assert_no_command(rt.alloc(), words, LINE)?;
     }
     Ok(())
 }

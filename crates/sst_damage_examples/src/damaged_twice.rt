@@ -5,11 +5,11 @@
 //! and [`crate::damaged_blocks`] have them; [`crate::damaged_names_twice`] has those with properties.
 //!
 //! RocksDB: `BlockBasedTable::Open` in table/block_based/block_based_table_reader.cc.
-use crate::damaged::{
-    DATA, FRONT, INDEX, INDEX_ROW, MAGIC, METAINDEX, ONE_RESTART, PLAIN_MAGIC, ROW, TAIL, VERSION,
-    ZEROS, assert_damaged,
-};
+use crate::damaged::{PLAIN_MAGIC, assert_damaged};
 use crate::damaged_blocks::{FIRST, FRONT_OF_TWO, INDEX_OF_TWO, RESTARTS, SECOND};
+use sst_worked_runs::small_file::{
+    DATA, FRONT, INDEX, INDEX_ROW, MAGIC, METAINDEX, ONE_RESTART, ROW, TAIL, VERSION, ZEROS,
+};
 use std::test::Fail;
 
 /// The files, and their first faults.

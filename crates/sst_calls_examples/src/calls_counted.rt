@@ -4,11 +4,11 @@
 //! most user keys, and the calls have every target around them.
 //!
 //! RocksDB: `DB::Get` in include/rocksdb/db.h and `Iterator` in include/rocksdb/iterator.h.
-use crate::calls::{assert_answered, file_in_blocks};
 use sst_key::{Answer, Call, Entry, Format, Kind, Reply, Target, answer};
 use sst_num::Bytes;
+use sst_worked_runs::asserting::assert_answered;
+use sst_worked_runs::worked_run::file_in_blocks;
 use std::alloc::Global;
-use std::process::Abort;
 use std::test::Fail;
 
 /// User keys in order: the digits and the bytes of each. The list has none of the last but one.
@@ -158,13 +158,7 @@ fn joined(alloc: Global, lines: &[String]) -> Result<String, Fail> {
 }
 
 /// Asserts that the calls are answered so from the file of the list in one data block, and in many.
-fn assert_in_blocks(
-    rt: &impl Abort,
-    alloc: Global,
-    lines: &str,
-    calls: &str,
-    text: &str,
-) -> Result<(), Fail> {
+fn assert_in_blocks(alloc: Global, lines: &str, calls: &str, text: &str) -> Result<(), Fail> {
     for option in [
         "block=64",
         "block=65",
@@ -173,7 +167,7 @@ fn assert_in_blocks(
         "block=4096",
     ] {
         let file = file_in_blocks(alloc, option, lines)?;
-        assert_answered(rt, alloc, &file, calls, text)?;
+        assert_answered(alloc, &file, calls, text)?;
     }
     Ok(())
 }
@@ -193,13 +187,7 @@ fn every_target(rt: HostRuntime) -> Result<(), Fail> {
             position = put_answers(&mut text, &listed, &at_target, position)?;
         }
     }
-    assert_in_blocks(
-        &rt,
-        rt.alloc(),
-        lines.as_str(),
-        calls.as_str(),
-        text.as_str(),
-    )
+    assert_in_blocks(rt.alloc(), lines.as_str(), calls.as_str(), text.as_str())
 }
 
 #[test]
@@ -222,11 +210,5 @@ fn every_step(rt: HostRuntime) -> Result<(), Fail> {
     }
     let mut text = String::new(rt.alloc());
     put_answers(&mut text, &listed, &steps, None)?;
-    assert_in_blocks(
-        &rt,
-        rt.alloc(),
-        lines.as_str(),
-        calls.as_str(),
-        text.as_str(),
-    )
+    assert_in_blocks(rt.alloc(), lines.as_str(), calls.as_str(), text.as_str())
 }

@@ -2,11 +2,12 @@
 //!
 //! The places and sizes are worked by hand; the checksums are those of an independent program.
 //!
-//! RocksDB: `BlockFetcher` in table/block_fetcher.cc, `DecodeEntry` in table/block_based/block_util.h. The limits are
+//! RocksDB: `BlockFetcher` in table/block_fetcher.cc, `DecodeEntry` in table/block_based/block.cc. The limits are
 //! this project's own.
-use crate::damaged::{METAINDEX, ONE_RESTART, assert_refused};
-use crate::worked_run::{Ran, answered, put_hex};
+use crate::damaged::assert_refused;
 use sst_cli::Status;
+use sst_worked_runs::small_file::{METAINDEX, ONE_RESTART};
+use sst_worked_runs::worked_run::{Ran, answered, put_hex};
 use std::alloc::Global;
 use std::process::Abort;
 use std::test::Fail;

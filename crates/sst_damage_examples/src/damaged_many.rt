@@ -6,9 +6,10 @@
 //!
 //! RocksDB: `BlockBasedTable::NewDataBlockIterator` in table/block_based/block_based_table_reader.cc. That all blocks are
 //! looked at before the first call is this project's own.
-use crate::calls::assert_answered;
-use crate::damaged::{DATA, INDEX_ROW, METAINDEX, ONE_RESTART, ROW, TAIL, assert_damaged};
-use crate::worked_run::put_hex;
+use crate::damaged::assert_damaged;
+use sst_worked_runs::asserting::assert_answered;
+use sst_worked_runs::small_file::{DATA, INDEX_ROW, METAINDEX, ONE_RESTART, ROW, TAIL};
+use sst_worked_runs::worked_run::put_hex;
 use std::test::Fail;
 
 /// The row of the second data block.
@@ -45,7 +46,7 @@ fn the_good_file(rt: HostRuntime) -> Result<(), Fail> {
     let calls = "first\nnext\nnext\nlast\nprev\nseek 61 0\nget 62 1\nseek_for_prev 62 2\n";
     let text =
         "61 1 P 78\n62 1 P 79\nnone\n62 1 P 79\n61 1 P 78\n62 1 P 79\n62 1 P 79\n61 1 P 78\n";
-    assert_answered(&rt, rt.alloc(), &file, calls, text)
+    assert_answered(rt.alloc(), &file, calls, text)
 }
 
 /// Files, and what is told of them.
