@@ -178,7 +178,7 @@ static ONE_BLOCK_TWICE: [&str; 11] = [
 ];
 
 /// Calls on that file, and their answers.
-static ON_ONE_BLOCK_TWICE: [(&str, &str); 3] = [
+static ON_ONE_BLOCK_TWICE: [(&str, &str); 4] = [
     // Next goes over the block twice, and Prev back.
     (
         "first\nnext\nnext\nlast\nprev\nprev\n",
@@ -188,6 +188,11 @@ static ON_ONE_BLOCK_TWICE: [(&str, &str); 3] = [
     (
         "seek 61 1\nnext\nnext\nseek 61 0\nseek 62 0\nprev\nget 61 1\nget 61 0\n",
         "61 1 P 78\n61 1 P 78\nnone\n61 1 P 78\nnone\nnot-positioned\n61 1 P 78\n61 1 P 78\n",
+    ),
+    // A target's tag ends with the greatest byte, 255, so the first separator isn't before the first of these.
+    (
+        "seek 62 72057594037927935\nseek 62 72057594037927934\nseek_for_prev 62 72057594037927935\nget 62 72057594037927935\n",
+        "61 1 P 78\nnone\n61 1 P 78\nnone\n",
     ),
     // SeekForPrev, too.
     (

@@ -7,6 +7,7 @@ use sst_worked_runs::asserting::assert_no_command;
 use sst_worked_runs::worked_run::{
     NAME, NONE_FAILS, holds, other_is_as_it_was, printed, run_on, still_to_come, written_with,
 };
+use std::alloc::Global;
 use std::test::Fail;
 
 /// A good input.
@@ -120,6 +121,42 @@ fn a_file_with_the_name_of_an_option(rt: HostRuntime) -> Result<(), Fail> {
         assert!(rt; holds(&ran, "block=64", &file), "on {words:?}");
         assert!(rt; ran.folder.file(NAME).is_none(), "on {words:?}");
         assert!(rt; other_is_as_it_was(&ran), "on {words:?}");
+    }
+    Ok(())
+}
+
+/// The length of the file of an entry with a value of so many bytes and one more entry, by these words.
+fn length_with(alloc: Global, bytes: usize, words: &[&str]) -> Result<Option<usize>, Fail> {
+    let value = vec![in alloc; b'7'; 2 * bytes]?;
+    let mut lines = Vec::new(alloc);
+    lines.extend_from_slice(b"61 1 P ")?;
+    lines.extend_from_slice(&value)?;
+    lines.extend_from_slice(b"\n62 1 P 79\n")?;
+    let ran = run_on(alloc, words, &lines, NONE_FAILS)?;
+    match ran.folder.file(NAME) {
+        Some(file) => Ok(Some(file.len())),
+        None => Ok(None),
+    }
+}
+
+// The first block has 4095 bytes, or 4096: without the option it is ended by the second alone. The lengths are those of
+// an independent program.
+#[test]
+fn the_size_without_an_option(rt: HostRuntime) -> Result<(), Fail> {
+    for (bytes, option, length) in [
+        (4074, "block=4095", 4525),
+        (4074, "", 4493),
+        (4075, "block=4097", 4494),
+        (4075, "", 4526),
+    ] {
+        let with = ["write", "block", NAME, option];
+        let words = if option.is_empty() {
+            &with[..3]
+        } else {
+            &with[..]
+        };
+        let found = length_with(rt.alloc(), bytes, words)?;
+        assert_eq!(rt; found, Some(length), "{bytes} {option}");
     }
     Ok(())
 }
