@@ -1,4 +1,4 @@
-use Rattle.std.proofs.Common.{ℕ, List, [], take, Err, sym, ap, ◌∙◌, inl, inr, subst}
+use Rattle.std.proofs.Common.{ℕ, List, take, Err, sym, ap, ◌∙◌, inl, inr, subst}
 use Rattle.std.proofs.lemmas.Result.{err_from_is_err_and}
 use Rattle.sst_cli.specs.declared.bbt_options.BbtOptions.{BbtOptions}
 use Rattle.sst_cli.specs.Written.{Written}
@@ -49,6 +49,3 @@ returns-clause-ok g c =
 pub returns-clause-others : goal.returns-clause-others
 returns-clause-others g c =
     inr (c.deref.result.now, appended_to_new (g.F.Folder.held c.args.files.now) (g.F.Folder.held c.begin.new.self) (g.F.Folder.held c.add.new.self) c.args.line.name.now c.deref.result.now c.in_ok-begin.ensures.begun c.in_ok-add.ensures.added)
-
-pub returns-in_err-add_lines-clause-begun : goal.returns-in_err-add_lines-clause-begun
-returns-in_err-add_lines-clause-begun g c = λ refusal is. ([], c.in_ok-begin.ensures.begun)
