@@ -3,6 +3,7 @@
 //! For now the whole file is made in memory first.
 ghost use Rattle.std.specs.Prelude.{◌≡◌, ◌⊎◌, ℕ, ◌≤◌, List, [], Option, Some, Ok, Err, IfOk};
 ghost use Rattle.sst_device.specs.Faults.{Rose};
+ghost use Rattle.sst_device.specs.Folder.{put_file};
 ghost use Rattle.sst_cli.specs.Reading.{read_input};
 ghost use Rattle.sst_cli.specs.Produced.{HasProduced};
 ghost use Rattle.sst_cli.specs.Run.{ChangesOnly};
@@ -26,6 +27,8 @@ pub fn produce<F: Folder, I: Intake>(
         (I.left input.old) (I.left input.new)) }
     ensures refused { (refusal : Refusal) → result ≡ Err (InputStop.Refused refusal)
         → (text : List ℕ) → I.left input.old ≡ Some text → read_input text ≡ Err refusal }
+    ensures begun { (refusal : Refusal) → result ≡ Err (InputStop.Refused refusal)
+        → (bytes : List ℕ) × (F.held files.new ≡ put_file (F.held files.old) line.entry.name.now bytes) }
     ensures others { ChangesOnly line.entry.name.now (F.held files.old) (F.held files.new) }
     ensures failed { result ≡ Err (InputStop.Device DevStop.Failed) → Rose (F.faults files.old) (F.faults files.new)
         ⊎ Rose (I.faults input.old) (I.faults input.new) }

@@ -10,7 +10,7 @@ ghost use Rattle.sst_cli.specs.CallText.{calls_text, AreInLimits, AreOfBytes};
 ghost use Rattle.sst_cli.specs.CallsRun.{Answered, AnsweredByWay, IsDamaged, IsLacking, IsRefusedInput, IsTextFor};
 ghost use Rattle.sst_cli.specs.EntryText.{lines_text, AreBytes};
 ghost use Rattle.sst_device.specs.Faults.{Rose};
-ghost use Rattle.sst_device.specs.Folder.{file_of, misses};
+ghost use Rattle.sst_device.specs.Folder.{file_of, misses, put_file};
 ghost use Rattle.sst_cli.specs.Opening.{blocks_read};
 ghost use Rattle.sst_cli.specs.Printed.{Prints};
 ghost use Rattle.sst_cli.specs.Reading as reading;
@@ -189,6 +189,8 @@ pub fn run<F: Folder, I: Intake, O: Sink>(
         ⊎ (Rose (I.faults input.old) (I.faults input.new) ⊎ Rose (O.faults out.old) (O.faults out.new))) }
     ensures hides_none { (result ≡ Status.Device)
         ⊎ ((F.faults files.new ≡ F.faults files.old) × ((I.faults input.new ≡ I.faults input.old) × (O.faults out.new ≡ O.faults out.old))) }
+    ensures begun { (name : List ℕ) → line.out_name (map string_bytes words.now) ≡ Some name → result ≡ Status.Input
+        → (bytes : List ℕ) × (F.held files.new ≡ put_file (F.held files.old) name bytes) }
     ensures others { (name : List ℕ) → line.out_name (map string_bytes words.now) ≡ Some name
         → ChangesOnly name (F.held files.old) (F.held files.new) }
     ensures kept { (name : List ℕ) → line.calls_name (map string_bytes words.now) ≡ Some name

@@ -3,6 +3,7 @@ ghost use Rattle.std.specs.Prelude.{◌≡◌, ◌⊎◌, ℕ, List, Some, Ok, E
 ghost use Rattle.std.specs.Io.KnownBytes.{append_known};
 ghost use Rattle.sst_key.specs.declared.entries.Entry.{Entry};
 ghost use Rattle.sst_device.specs.Faults.{Rose};
+ghost use Rattle.sst_device.specs.Folder.{put_file};
 ghost use Rattle.sst_cli.specs.Reading.{read_input};
 ghost use Rattle.sst_cli.specs.Refusals.{refusal_text};
 ghost use Rattle.sst_cli.specs.declared.refusal.Refusal.{Refusal};
@@ -39,6 +40,8 @@ pub fn write<F: Folder, I: Intake, O: Sink>(
         → (refusal : Refusal) × (read_input text ≡ Err refusal) }
     ensures device { result ≡ Status.Device → Rose (F.faults files.old) (F.faults files.new)
         ⊎ (Rose (I.faults input.old) (I.faults input.new) ⊎ Rose (O.faults out.old) (O.faults out.new)) }
+    ensures begun { result ≡ Status.Input
+        → (bytes : List ℕ) × (F.held files.new ≡ put_file (F.held files.old) line.entry.name.now bytes) }
     ensures others { ChangesOnly line.entry.name.now (F.held files.old) (F.held files.new) }
     ensures hides_none { (result ≡ Status.Device)
         ⊎ ((F.faults files.new ≡ F.faults files.old) × ((I.faults input.new ≡ I.faults input.old) × (O.faults out.new ≡ O.faults out.old))) }

@@ -1,4 +1,4 @@
-use Rattle.std.proofs.Common.{ℕ, List, Option, map, refl, sym, subst, inl, inr}
+use Rattle.std.proofs.Common.{ℕ, List, Option, map, refl, sym, subst, inl, inr, ◌∙◌}
 use Rattle.std.specs.String.{string_bytes}
 use Rattle.sst_cli.specs.CallText.{calls_text}
 use Rattle.sst_cli.specs.CallsRun.{IsTextFor, IsOtherText}
@@ -91,3 +91,19 @@ returns-in-Some-calls_name-clause-done_only g c = λ is name file words held.
     let same = named c.in-Some-calls_name.name.now name _ c.in-Some-calls_name.ensures words in
     let opened = rw same at c.calls.ensures.opened in
     opened is file held
+
+pub returns-in-Some-clause-begun : goal.returns-in-Some-clause-begun
+returns-in-Some-clause-begun g c = λ name words is.
+    let same = named c.in-Some.line.name.now name _ (line_out _ (map string_bytes c.args.words.now) c.in-Some.ensures) words in
+    let begun = c.write.ensures.begun is in
+    rw same at begun
+
+pub returns-in-Some-calls_name-clause-begun : goal.returns-in-Some-calls_name-clause-begun
+returns-in-Some-calls_name-clause-begun g c = λ name words is.
+    let both = no_out (map string_bytes c.args.words.now) c.in-None.ensures ∙ words in
+    absurd (cc both)
+
+pub returns-in-None-calls_name-clause-begun : goal.returns-in-None-calls_name-clause-begun
+returns-in-None-calls_name-clause-begun g c = λ name words is.
+    let both = no_out (map string_bytes c.args.words.now) c.in-None.ensures ∙ words in
+    absurd (cc both)

@@ -53,3 +53,7 @@ returns-in-Err-Refused-clause-refused g c = λ text refusal told reads.
     let said = c.produce.ensures.refused some (rw c.in-Err-Refused.field-0-is at c.in-Err-Refused.is) in
     let same = same_refusal (read_input text) some refusal (said text told) reads in
     refusal_printed c.print_refusal.result some refusal (g.O.Sink.written c.args.out.now) (g.O.Sink.written c.print_refusal.new.out) (g.O.Sink.faults c.args.out.now) (g.O.Sink.faults c.print_refusal.new.out) c.print_refusal.ensures.printed same
+
+pub returns-in-Err-Refused-clause-begun : goal.returns-in-Err-Refused-clause-begun
+returns-in-Err-Refused-clause-begun g c = λ is.
+    c.produce.ensures.begun c.in-Err-Refused.refusal (rw c.in-Err-Refused.field-0-is at c.in-Err-Refused.is)
