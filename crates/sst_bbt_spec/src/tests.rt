@@ -1,0 +1,17 @@
+//! Each law is called once.
+use crate::laws::{
+    a_file_stands_for_one_list, a_file_that_stands_is_separated, a_key_between_separates,
+    a_separated_file_stands, the_way_is_the_lists, what_a_file_stands_for_is_ordered,
+};
+use std::test::Fail;
+
+#[test]
+fn laws(_rt: HostRuntime) -> Result<(), Fail> {
+    the_way_is_the_lists();
+    what_a_file_stands_for_is_ordered();
+    a_file_that_stands_is_separated();
+    a_separated_file_stands();
+    a_key_between_separates();
+    a_file_stands_for_one_list();
+    Ok(())
+}
