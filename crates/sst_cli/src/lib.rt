@@ -136,6 +136,8 @@ mod cuts;
 mod entry_line;
 mod fault_text;
 mod fields;
+#[cfg(test)]
+mod law_tests;
 mod laws;
 mod lines;
 mod list_search;

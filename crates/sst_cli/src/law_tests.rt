@@ -1,0 +1,30 @@
+//! Each law is called once.
+use crate::laws::{
+    a_call_line_reads_back, a_call_list_reads_back, a_list_is_cut_where_blocks_are_full,
+    a_list_reads_back, an_entry_line_reads_back, written_file_stands_for_its_list,
+};
+use crate::opening_laws::{
+    a_fault_is_shown, a_file_opens_to_its_blocks, a_file_that_opens_shows_no_fault,
+    a_written_file_reads_back,
+};
+use std::test::Fail;
+
+#[test]
+fn laws(_rt: HostRuntime) -> Result<(), Fail> {
+    written_file_stands_for_its_list();
+    a_list_is_cut_where_blocks_are_full();
+    an_entry_line_reads_back();
+    a_list_reads_back();
+    a_call_line_reads_back();
+    a_call_list_reads_back();
+    Ok(())
+}
+
+#[test]
+fn opening_laws(_rt: HostRuntime) -> Result<(), Fail> {
+    a_fault_is_shown();
+    a_file_opens_to_its_blocks();
+    a_file_that_opens_shows_no_fault();
+    a_written_file_reads_back();
+    Ok(())
+}
