@@ -2,6 +2,7 @@ pub mod EntriesOfRows
 pub mod HandlesOnce
 pub mod OneList
 pub mod SeparatedBlocks
+pub mod Separating
 pub mod SeparatorOrder
 pub mod Stands
 pub mod UpToSeparator

@@ -46,6 +46,8 @@
 //! - What the seven calls answer by the way of the index (`way_answer`, specs/Way.antt) is what they answer of the list,
 //!   where the separators separate the blocks ([`the_way_is_the_lists`]), and so on each file that stands for a list
 //!   ([`a_file_that_stands_is_separated`]).
+//! - A file that opens to blocks which its separators separate stands for their list ([`a_separated_file_stands`]); each
+//!   key between the last key of a block and the first of the next separates the two ([`a_key_between_separates`]).
 //!
 //! RocksDB: the wiki page "Rocksdb BlockBasedTable Format"; table/block_based/block_based_table_reader.cc and
 //! table/block_based/index_builder.h.
@@ -56,6 +58,6 @@ mod laws;
 mod tests;
 
 pub use laws::{
-    a_file_stands_for_one_list, a_file_that_stands_is_separated, the_way_is_the_lists,
-    what_a_file_stands_for_is_ordered,
+    a_file_stands_for_one_list, a_file_that_stands_is_separated, a_key_between_separates,
+    a_separated_file_stands, the_way_is_the_lists, what_a_file_stands_for_is_ordered,
 };

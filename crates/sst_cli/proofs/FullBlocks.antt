@@ -16,7 +16,7 @@ first_true true b both = refl
 first_true false b both = cc
 
 -- a full block has an entry
-full-some : (limit : ℕ) (block : List Entry) → IsTrue (is_full limit block) → 0 < length block
+pub full-some : (limit : ℕ) (block : List Entry) → IsTrue (is_full limit block) → 0 < length block
 full-some limit [] full = cc
 full-some limit (e ∷ rest) full = omega arith
 

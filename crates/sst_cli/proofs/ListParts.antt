@@ -10,6 +10,7 @@ use Rattle.sst_key.proofs.KeyParts.{internal_cmp-entries, less-from_IsBefore}
 use Rattle.sst_key.proofs.TargetOrder.{IsBefore-trans}
 use Rattle.sst_block.specs.Builder.{last_key}
 use Rattle.sst_bbt_spec.specs.Rows.{rows_of}
+use Rattle.sst_bbt_spec.proofs.Separating.{ordered-front, ordered-back}
 use Rattle.sst_bbt_spec.proofs.WayLaws.{All-front, All-back}
 use Rattle.sst_cli.specs.Written.{IsInLimits, Fits}
 
@@ -30,19 +31,6 @@ last_entry-limits e (f ∷ rest) limits = last_entry-limits f rest (All-tail IsI
 pub last_entry-weight : (e : Entry) (rest : List Entry) → entry_weight (last_entry e rest) ≤ weight (e ∷ rest)
 last_entry-weight e [] = omega (arith, sum_by-cons entry_weight e [])
 last_entry-weight e (f ∷ rest) = omega (arith, last_entry-weight f rest, sum_by-cons entry_weight e (f ∷ rest))
-
-ordered-front : (xs ys : List Entry) → IsOrdered (xs ++ ys) → IsOrdered xs
-ordered-front [] ys ordered = tt
-ordered-front (a ∷ []) ys ordered = tt
-ordered-front (a ∷ b ∷ xs) ys ordered = (ordered.0, ordered-front (b ∷ xs) ys ordered.1)
-
-ordered-tail : (a : Entry) (xs : List Entry) → IsOrdered (a ∷ xs) → IsOrdered xs
-ordered-tail a [] ordered = tt
-ordered-tail a (b ∷ xs) ordered = ordered.1
-
-ordered-back : (xs ys : List Entry) → IsOrdered (xs ++ ys) → IsOrdered ys
-ordered-back [] ys ordered = ordered
-ordered-back (a ∷ xs) ys ordered = ordered-back xs ys (ordered-tail a (xs ++ ys) ordered)
 
 -- the last entry of a part is before the first behind the part
 pub last-before : (e : Entry) (rest : List Entry) (f : Entry) (more : List Entry) → IsOrdered ((e ∷ rest) ++ (f ∷ more)) → IsBefore (last_entry e rest) f

@@ -24,10 +24,12 @@ pub fn written_file_stands_for_its_list()
 /// The data blocks into which a list is cut are its entries, each block ends where it is full, and no sooner.
 ///
 /// `entries`: joined they are the list. `full`: each has an entry; each but the last is full, and without its last entry none is.
+/// `one`: so no other blocks are those of the list.
 /// RocksDB: `FlushBlockBySizePolicy` in table/block_based/flush_block_policy.cc.
 pub fn a_list_is_cut_where_blocks_are_full()
     ensures entries { (limit : ℕ) (entries : List Entry) → entries_in (blocks_for limit entries) ≡ entries }
     ensures full { (limit : ℕ) (entries : List Entry) → AreBlocks limit (blocks_for limit entries) }
+    ensures one { (limit : ℕ) (a b : List (List Entry)) → AreBlocks limit a → AreBlocks limit b → entries_in a ≡ entries_in b → a ≡ b }
 {}
 
 /// The line that is written for an entry reads back as the entry.

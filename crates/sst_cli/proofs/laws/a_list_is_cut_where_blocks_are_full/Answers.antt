@@ -1,4 +1,5 @@
 use Rattle.sst_cli.proofs.FullBlocks.{blocks_for-entries, blocks_for-full}
+use Rattle.sst_cli.proofs.OneCut.{blocks-one}
 use Rattle.sst_cli.proofs.laws.a_list_is_cut_where_blocks_are_full.Goals as goal
 
 pub returns-clause-entries : goal.returns-clause-entries
@@ -6,3 +7,6 @@ returns-clause-entries c = blocks_for-entries
 
 pub returns-clause-full : goal.returns-clause-full
 returns-clause-full c = blocks_for-full
+
+pub returns-clause-one : goal.returns-clause-one
+returns-clause-one c = blocks-one
