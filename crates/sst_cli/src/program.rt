@@ -168,6 +168,20 @@ pub fn run<F: Folder, I: Intake, O: Sink>(
     ensures absent { (name : List ℕ) → line.calls_name (map string_bytes words.now) ≡ Some name
         → IsTrue (misses (F.held files.old) name 0) → (result ≡ Status.Input) ⊎ IsFault result }
 
+    // What a run that ends with Done has done, and what one without a fault has printed.
+    ensures done_written { result ≡ Status.Done → (write : WriteLine) (text : List ℕ)
+        → line.write_line (map string_bytes words.now) ≡ Some write → I.left input.old ≡ Some text
+        → (entries : List Entry) × (reading.read_input text ≡ Ok entries)
+        × Wrote result write entries (F.held files.old) (F.held files.new) (I.left input.new) (O.written out.old) (O.written out.new) }
+    ensures done_answered { result ≡ Status.Done → (name file text : List ℕ)
+        → line.calls_name (map string_bytes words.now) ≡ Some name → file_of (F.held files.old) name ≡ Some file
+        → I.left input.old ≡ Some text
+        → (blocks : List IndexedBlock) × (calls : List Call) × Opens file blocks × (reading.read_calls text ≡ Ok calls)
+        × AnsweredByWay result blocks calls (F.held files.old) (F.held files.new) (I.left input.new) (O.written out.old) (O.written out.new) }
+    ensures whole { result ≢ Status.Device → result ≢ Status.Memory → (text : List ℕ)
+        × IsTextFor (map string_bytes words.now) (F.held files.old) (I.left input.old) (line.out_name (map string_bytes words.now)) text
+        × (O.written out.new ≡ append_known (O.written out.old) text) }
+
     // With any input and any file: which statuses there are, that the whole text is printed but for a fault, and its
     // cause.
     ensures usage_only { result ≡ Status.Usage

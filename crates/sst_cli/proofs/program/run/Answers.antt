@@ -3,9 +3,12 @@ use Rattle.std.specs.String.{string_bytes}
 use Rattle.sst_cli.specs.CallText.{calls_text}
 use Rattle.sst_cli.specs.CallsRun.{IsTextFor, IsOtherText}
 use Rattle.sst_cli.specs.EntryText.{lines_text}
+use Rattle.sst_cli.specs.Reading.{read_input, read_calls}
 use Rattle.sst_cli.specs.Run.{usage_text}
+use Rattle.sst_cli.specs.Words.{WriteLine}
 use Rattle.sst_cli.proofs.CallRoundTrip.{read_calls-text}
 use Rattle.sst_cli.proofs.CallsPrinted.{answered_list, answered_way, answered_damage, only_out}
+use Rattle.sst_cli.proofs.DoneRuns.{done_wrote, done_answers, whole_text}
 use Rattle.sst_cli.proofs.ListRoundTrip.{read_input-lines}
 use Rattle.sst_cli.proofs.PrintedTexts.{some_printed, named, line_out, no_out}
 use Rattle.sst_cli.proofs.program.run.Goals as goal
@@ -107,3 +110,52 @@ pub returns-in-None-calls_name-clause-begun : goal.returns-in-None-calls_name-cl
 returns-in-None-calls_name-clause-begun g c = λ name words is.
     let both = no_out (map string_bytes c.args.words.now) c.in-None.ensures ∙ words in
     absurd (cc both)
+
+pub returns-in-Some-clause-done_written : goal.returns-in-Some-clause-done_written
+returns-in-Some-clause-done_written g c = λ is write text words left.
+    let line : WriteLine = record { name = c.in-Some.line.name.now; options = c.in-Some.line.options } in
+    let same = named line write _ c.in-Some.ensures words in
+    let done = done_wrote c.write.result (read_input text) line (g.F.Folder.held c.args.files.now) (g.F.Folder.held c.write.new.files) (g.I.Intake.left c.write.new.input) (g.O.Sink.written c.args.out.now) (g.O.Sink.written c.write.new.out) _
+    (λ entries reads. c.write.ensures.written text entries left reads) (λ refusal reads. c.write.ensures.refused text refusal left reads) is in
+    rw same at done
+
+pub returns-in-Some-calls_name-clause-done_answered : goal.returns-in-Some-calls_name-clause-done_answered
+returns-in-Some-calls_name-clause-done_answered g c = λ is name file text words held left.
+    let same = named c.in-Some-calls_name.name.now name _ c.in-Some-calls_name.ensures words in
+    let told = rw same at c.calls.ensures.told in
+    let opened = rw same at c.calls.ensures.opened in
+    done_answers c.calls.result file (read_calls text) (g.F.Folder.held c.args.files.now) (g.F.Folder.held c.calls.new.files) (g.I.Intake.left c.calls.new.input) (g.O.Sink.written c.args.out.now) (g.O.Sink.written c.calls.new.out) _
+    (λ calls reads. told text file calls left reads held) (λ refusal reads. c.calls.ensures.refused text refusal left reads) (λ done. opened done file held) c.calls.ensures.kept is
+
+pub returns-in-Some-clause-done_answered : goal.returns-in-Some-clause-done_answered
+returns-in-Some-clause-done_answered g c = λ is name file text words held left.
+    let given = map string_bytes c.args.words.now in
+    only_out given c.in-Some.line.name.now name _ (line_out _ given c.in-Some.ensures) words
+
+pub returns-in-Some-clause-whole : goal.returns-in-Some-clause-whole
+returns-in-Some-clause-whole g c = λ no_device no_memory.
+    let printed = c.write.ensures.printed in
+    let words : List (List ℕ) = map string_bytes c.args.words.now in
+    let held = g.F.Folder.held c.args.files.now in
+    let left = g.I.Intake.left c.args.input.now in (
+      printed.0,
+      subst (λ (o : Option (List ℕ)). IsTextFor words held left o printed.0) (line_out _ words c.in-Some.ensures) printed.1,
+      whole_text c.write.result printed.0 (g.O.Sink.written c.args.out.now) (g.O.Sink.written c.write.new.out) printed.2 no_device no_memory,
+    )
+
+pub returns-in-Some-calls_name-clause-whole : goal.returns-in-Some-calls_name-clause-whole
+returns-in-Some-calls_name-clause-whole g c = λ no_device no_memory.
+    let printed = c.calls.ensures.printed in
+    let words : List (List ℕ) = map string_bytes c.args.words.now in
+    let held = g.F.Folder.held c.args.files.now in
+    let left = g.I.Intake.left c.args.input.now in
+    let named_text = subst (λ (o : Option (List ℕ)). IsOtherText held left o printed.0) c.in-Some-calls_name.ensures printed.1 in (
+      printed.0,
+      subst (λ (o : Option (List ℕ)). IsTextFor words held left o printed.0) (no_out words c.in-None.ensures) named_text,
+      whole_text c.calls.result printed.0 (g.O.Sink.written c.args.out.now) (g.O.Sink.written c.calls.new.out) printed.2 no_device no_memory,
+    )
+
+pub returns-in-None-calls_name-clause-whole : goal.returns-in-None-calls_name-clause-whole
+returns-in-None-calls_name-clause-whole g c = λ no_device no_memory.
+    let printed = returns-in-None-calls_name-clause-printed g c in
+    (printed.0, printed.1, whole_text c.print.result printed.0 (g.O.Sink.written c.args.out.now) (g.O.Sink.written c.print.new.out) printed.2 no_device no_memory)
