@@ -19,8 +19,8 @@ use Rattle.sst_bbt_spec.specs.Way.{IndexedBlock, joined}
 use Rattle.sst_cli.specs.Cut.{data_block, entries_in}
 use Rattle.sst_cli.specs.Written.{IsInLimits, Fits, stored_length, data_part, index_row, index_rows}
 use Rattle.sst_cli.proofs.FullBlocks.{HaveEntries}
-use Rattle.sst_cli.proofs.ListParts.{last_entry, last_key-entry, last_entry-limits, last-before, keys-less, fits-front, fits-back}
-use Rattle.sst_cli.proofs.Rows.{rows_of-forms, rows_of-ordered}
+use Rattle.sst_cli.proofs.ListParts.{last_entry, last_key-entry, last_entry-limits, last-before, fits-front, fits-back}
+use Rattle.sst_cli.proofs.Rows.{less-keys, rows_of-forms, rows_of-ordered}
 use Rattle.sst_cli.proofs.IndexRows.{length-data_part, data_block-short}
 
 -- a data block with its separator, which is its last key
@@ -77,7 +77,7 @@ begins-after e block f next fits =
     let front = fits-front (e ∷ block) (f ∷ next) fits in
     let first = last_entry-limits f [] (fits-front (f ∷ []) next (fits-back (e ∷ block) (f ∷ next) fits)).limits in
     rw (last_key-entry e block)
-    (keys-less (last_entry e block) f (last_entry-limits e block front.limits) first (last-before e block f next fits.ordered))
+    (less-keys (last_entry e block) f (last_entry-limits e block front.limits) first (last-before e block f next fits.ordered))
 
 blocks-separated : (blocks : List (List Entry)) → HaveEntries blocks → Fits (entries_in blocks) → AreSeparated (map indexed blocks)
 blocks-separated [] some fits = tt

@@ -12,13 +12,15 @@ use Rattle.sst_block.specs.Builder.{Holds, CanAdd, row_room, last_key}
 use Rattle.sst_block.proofs.Size.{can_add}
 use Rattle.sst_device.specs.Framed.{frame_of}
 use Rattle.sst_bbt_spec.specs.Rows.{rows_of}
+use Rattle.sst_meta.proofs.FramedParts.{length-frame}
 use Rattle.sst_cli.specs.declared.bbt_writer.BbtWriter.{BbtWriter}
 use Rattle.sst_cli.specs.Cut.{Blocks, data_block, entries_in}
 use Rattle.sst_cli.specs.Keeps.{Keeps, ended_now}
 use Rattle.sst_cli.specs.Written.{Fits, IsInLimits, data_part, index_row, index_rows}
 use Rattle.sst_cli.proofs.Rows.{last_key-of_some}
 use Rattle.sst_cli.proofs.CutSteps.{AreOf, of-ended}
-use Rattle.sst_cli.proofs.IndexRoom.{limits-back, index-ordered, index-room, index_rows-more, data_part-more, data_part-le, data-le, blocks-few, weight-both, length-framed}
+use Rattle.sst_bbt_spec.proofs.WayLaws.{All-back}
+use Rattle.sst_cli.proofs.IndexRoom.{index-ordered, index-room, index_rows-more, data_part-more, data_part-le, data-le, blocks-few, weight-both}
 
 -- the last key of a list is that of its end
 last-of_back : (before : List ℕ) (front back : List Entry) → 0 < length back → last_key before (rows_of (front ++ back)) ≡ last_key [] (rows_of back)
@@ -52,7 +54,7 @@ may_end entries cut are fits some =
     let same = ap (λ (l : List Row). sum_by row_room l) rows in
     let total = ap weight all in
     let light = fits.light in
-    let limits = key-limits cut.current some (limits-back (entries_in cut.ended) cut.current (subst (λ (l : List Entry). All IsInLimits l) are.joined fits.limits)) in
+    let limits = key-limits cut.current some (All-back IsInLimits (entries_in cut.ended) cut.current (subst (λ (l : List Entry). All IsInLimits l) are.joined fits.limits)) in
     let sum = ap weight are.joined ∙ weight-both (entries_in cut.ended) cut.current in
     let long : length (data_part cut.ended) ≤ 2 ^ 29 = omega (arith, data_part-le cut.ended are.filled, sum, light) in
     let block : length (data_block cut.current) ≤ 2 ^ 29 = omega (arith, data-le cut.current, sum, light) in
@@ -150,7 +152,7 @@ ended_keeps w cut entries bytes next index block key value size kept some empty 
       rows = refl;
       index = subst (λ (l : List Row). Holds index (Index false false) 1 l) (ap (λ (r : Row). index_rows 0 cut.ended ++ r ∷ []) row ∙ sym (index_rows-more cut.ended cut.current)) put;
       blocks = omega (arith, length-append cut.ended (cut.current ∷ []));
-      data_size = omega (arith, length-append bytes (frame_of block), length-framed block);
+      data_size = omega (arith, length-append bytes (frame_of block), length-frame block);
       appended = ap (λ (l : List ℕ). l ++ frame_of block) kept.appended ∙ ap (λ (l : List ℕ). data_part cut.ended ++ frame_of l) block_is ∙ sym (data_part-more cut.ended cut.current);
       last = kept.last;
       count = kept.count;

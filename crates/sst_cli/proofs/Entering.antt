@@ -16,7 +16,9 @@ use Rattle.sst_cli.specs.Written.{Fits, index_rows, key_bytes, value_bytes}
 use Rattle.sst_cli.proofs.Rows.{length-key_of, weight-append}
 use Rattle.sst_cli.proofs.Added.{data_takes, data-more, last-more, has_room}
 use Rattle.sst_cli.proofs.CutSteps.{of-entry}
-use Rattle.sst_cli.proofs.IndexRoom.{ordered-back, limits-back, weight-both}
+use Rattle.sst_bbt_spec.proofs.WayLaws.{All-back}
+use Rattle.sst_bbt_spec.proofs.Separating.{ordered-back}
+use Rattle.sst_cli.proofs.IndexRoom.{weight-both}
 use Rattle.sst_cli.proofs.Ending.{of-kept}
 
 -- the back of a list that is written is such a list
@@ -25,7 +27,7 @@ fits-back front back fits =
     let light = fits.light in
     record {
       ordered = ordered-back front back fits.ordered;
-      limits = limits-back front back fits.limits;
+      limits = All-back IsInLimits front back fits.limits;
       light = omega (arith, weight-both front back);
     }
 

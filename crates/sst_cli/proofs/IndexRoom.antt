@@ -13,12 +13,15 @@ use Rattle.sst_block.specs.declared.row_form.RowForm.TheVariants.{Index}
 use Rattle.sst_block.specs.Block.{Row, AreOrdered}
 use Rattle.sst_block.specs.Builder.{last_key, row_room}
 use Rattle.sst_block.proofs.Size.{block_of-le}
-use Rattle.sst_device.specs.Framed.{frame_of, trailer_of}
+use Rattle.sst_device.specs.Framed.{frame_of}
 use Rattle.sst_meta.proofs.Footers.{length-handle}
+use Rattle.sst_meta.proofs.FramedParts.{length-frame}
 use Rattle.sst_bbt_spec.specs.Rows.{rows_of}
+use Rattle.sst_bbt_spec.proofs.WayLaws.{All-back}
 use Rattle.sst_cli.specs.Cut.{data_block, entries_in}
 use Rattle.sst_cli.specs.Keeps.{HasEntry}
 use Rattle.sst_cli.specs.Written.{IsInLimits, data_part, index_row, index_rows, stored_length}
+use Rattle.sst_bbt_spec.proofs.Separating.{ordered-back}
 use Rattle.sst_cli.proofs.Rows.{length-key_of, less-keys, rows_of-room}
 
 -- an entry before a list is before the last of it
@@ -37,17 +40,6 @@ block-before x [] e next more ordered limits =
 block-before x (y ∷ rest) e next more ordered limits =
     block-before y rest e next more ordered.1 (All-tail IsInLimits x (y ∷ (rest ++ (e ∷ (next ++ more)))) limits)
 
--- the back of an ordered list is ordered
-pub ordered-back : (front back : List Entry) → IsOrdered (front ++ back) → IsOrdered back
-ordered-back [] back ordered = ordered
-ordered-back (a ∷ []) [] ordered = tt
-ordered-back (a ∷ []) (b ∷ back) ordered = ordered.1
-ordered-back (a ∷ b ∷ rest) back ordered = ordered-back (b ∷ rest) back ordered.1
-
-pub limits-back : (front back : List Entry) → All IsInLimits (front ++ back) → All IsInLimits back
-limits-back [] back limits = limits
-limits-back (a ∷ rest) back limits = limits-back rest back (All-tail IsInLimits a (rest ++ back) limits)
-
 -- the index rows of an ordered list are in order
 pub index-ordered : (at : ℕ) (blocks : List (List Entry)) → All HasEntry blocks → IsOrdered (entries_in blocks) → All IsInLimits (entries_in blocks)
     → AreOrdered (Index false false) (index_rows at blocks)
@@ -60,7 +52,7 @@ index-ordered at ((x ∷ block) ∷ (e ∷ next) ∷ rest) filled ordered limits
     let all = entries_in ((e ∷ next) ∷ rest) in (
       block-before x block e next (entries_in rest) ordered limits,
       index-ordered (at + stored_length (data_block (x ∷ block))) ((e ∷ next) ∷ rest) (All-tail HasEntry (x ∷ block) ((e ∷ next) ∷ rest) filled)
-          (ordered-back (x ∷ block) all ordered) (limits-back (x ∷ block) all limits),
+          (ordered-back (x ∷ block) all ordered) (All-back IsInLimits (x ∷ block) all limits),
     )
 
 -- the last key of a block takes less than the block weighs
@@ -84,14 +76,6 @@ index-room at (block ∷ rest) filled =
     let more = index-room (at + stored_length (data_block block)) rest (All-tail HasEntry block rest filled) in
     omega (arith, here, more, weight-both block (entries_in rest), sum_by-cons row_room (index_row at block) (index_rows (at + stored_length (data_block block)) rest))
 
--- a trailer has five bytes
-length-trailer : (block : List ℕ) → length (trailer_of block) ≡ 5
-unfolding trailer_of
-length-trailer block = refl
-
-pub length-framed : (block : List ℕ) → length (frame_of block) ≡ length block + 5
-length-framed block = omega (arith, length-append block (trailer_of block), length-trailer block)
-
 -- one data block more
 pub data_part-more : (blocks : List (List Entry)) (block : List Entry) → data_part (blocks ++ block ∷ []) ≡ data_part blocks ++ frame_of (data_block block)
 data_part-more blocks block =
@@ -104,7 +88,7 @@ index_rows-from at [] block = let none : at + 0 ≡ at = omega arith in rw none 
 index_rows-from at (first ∷ rest) block =
     let next = at + stored_length (data_block first) in
     let size : next + length (data_part rest) ≡ at + length (data_part (first ∷ rest)) =
-    omega (arith, length-append (frame_of (data_block first)) (data_part rest), length-framed (data_block first)) in
+    omega (arith, length-append (frame_of (data_block first)) (data_part rest), length-frame (data_block first)) in
     ap (λ (rows : List Row). index_row at first ∷ rows) (index_rows-from next rest block ∙ ap (λ (k : ℕ). index_rows next rest ++ index_row k block ∷ []) size)
 
 pub index_rows-more : (blocks : List (List Entry)) (block : List Entry)
@@ -127,7 +111,7 @@ data_part-le [] filled = omega arith
 data_part-le (block ∷ rest) filled =
     let more = data_part-le rest (All-tail HasEntry block rest filled) in
     let here = some-weight block (All-head HasEntry block rest filled) in
-    omega (arith, more, here, data-le block, length-framed (data_block block), weight-both block (entries_in rest), length-append (frame_of (data_block block)) (data_part rest))
+    omega (arith, more, here, data-le block, length-frame (data_block block), weight-both block (entries_in rest), length-append (frame_of (data_block block)) (data_part rest))
 
 -- so many blocks weigh so much
 pub blocks-few : (blocks : List (List Entry)) → All HasEntry blocks → length blocks ≤ weight (entries_in blocks)

@@ -27,24 +27,10 @@ pub last_entry-limits : (e : Entry) (rest : List Entry) → All IsInLimits (e �
 last_entry-limits e [] limits = All-head IsInLimits e [] limits
 last_entry-limits e (f ∷ rest) limits = last_entry-limits f rest (All-tail IsInLimits e (f ∷ rest) limits)
 
--- it weighs no more than the list
-pub last_entry-weight : (e : Entry) (rest : List Entry) → entry_weight (last_entry e rest) ≤ weight (e ∷ rest)
-last_entry-weight e [] = omega (arith, sum_by-cons entry_weight e [])
-last_entry-weight e (f ∷ rest) = omega (arith, last_entry-weight f rest, sum_by-cons entry_weight e (f ∷ rest))
-
 -- the last entry of a part is before the first behind the part
 pub last-before : (e : Entry) (rest : List Entry) (f : Entry) (more : List Entry) → IsOrdered ((e ∷ rest) ++ (f ∷ more)) → IsBefore (last_entry e rest) f
 last-before e [] f more ordered = ordered.0
 last-before e (x ∷ rest) f more ordered = last-before x rest f more ordered.1
-
--- what is before the first is before the last
-pub before-last : (x f : Entry) (more : List Entry) → IsBefore x f → IsOrdered (f ∷ more) → IsBefore x (last_entry f more)
-before-last x f [] before ordered = before
-before-last x f (g ∷ more) before ordered = before-last x g more (IsBefore-trans x f g before ordered.0) ordered.1
-
--- entries in order have keys in order
-pub keys-less : (a b : Entry) → IsInLimits a → IsInLimits b → IsBefore a b → internal_cmp (key_of a) (key_of b) ≡ Less
-keys-less a b la lb before = internal_cmp-entries a b la.seq lb.seq ∙ less-from_IsBefore a b before
 
 -- the parts of a list that is written are written
 pub fits-front : (xs ys : List Entry) → Fits (xs ++ ys) → Fits xs

@@ -13,7 +13,8 @@ use Rattle.sst_cli.specs.Written.{Fits, Written, data_part, index_rows, index_bl
 use Rattle.sst_cli.specs.declared.bbt_options.BbtOptions.{BbtOptions}
 use Rattle.sst_cli.specs.declared.properties.Sizes.{Sizes}
 use Rattle.sst_cli.proofs.FullBlocks.{HaveEntries, blocks_for-entries, blocks_for-some}
-use Rattle.sst_cli.proofs.IndexRows.{data_part-le, index_block-short, index_block-is}
+use Rattle.sst_cli.proofs.IndexRoom.{data_part-le}
+use Rattle.sst_cli.proofs.IndexRows.{filled, index_block-short, index_block-is}
 use Rattle.sst_cli.proofs.DataBlocks.{indexed, rows-lead, entries-run}
 use Rattle.sst_cli.proofs.PropertyRows.{properties-short}
 use Rattle.sst_cli.proofs.PropertiesStand.{properties-are}
@@ -35,7 +36,7 @@ end-put stored index sizes first second =
     ∙ ap (λ (n : ℕ). front_of stored index ++ ending_of n 2 at (properties sizes)) place
 
 data_part-short : (blocks : List (List Entry)) → HaveEntries blocks → Fits (entries_in blocks) → length (data_part blocks) ≤ 2 ^ 29
-data_part-short blocks some fits = omega (arith, data_part-le blocks some, fits.light)
+data_part-short blocks some fits = omega (arith, data_part-le blocks (filled blocks some), fits.light)
 
 -- the file of a list that was cut into blocks opens to these
 blocks-open : (blocks : List (List Entry)) (sizes : Sizes) → HaveEntries blocks → Fits (entries_in blocks) → sizes.data_size ≡ length (data_part blocks)
