@@ -95,15 +95,16 @@ answered_list result file entries stands calls old new left before now found kep
       | inr way ↦ inr (record { done = way.done; kept = way.kept; read = way.read; printed = way.printed ∙ ap (append_known before) (stands-text file entries stands calls) })
     ]
 
-damage_of : (result : Status) (file : List ℕ) (read : Result (List RowBlock) BbtFault) (calls : List Call) (before now : Option (List ℕ))
+damage_of : (result : Status) (file : List ℕ) (read : Result (List RowBlock) BbtFault) (calls : List Call) (left before now : Option (List ℕ))
     → IsBytes file → ((blocks : List IndexedBlock) → Opens file blocks → ⊥) → blocks_read file ≡ read
-    → IsAnswered result read calls before now → IsDamaged result file before now
-damage_of result file (Ok blocks) calls before now bytes closed reads found =
+    → IsAnswered result read calls before now → left ≡ Some [] → IsDamaged result file left before now
+damage_of result file (Ok blocks) calls left before now bytes closed reads found ended =
     let some = blocks_read-found file blocks reads in
     absurd (closed some.0 some.1)
-damage_of result file (Err fault) calls before now bytes closed reads found =
+damage_of result file (Err fault) calls left before now bytes closed reads found ended =
     record {
       ends = found.ends;
+      read = ended;
       fault = fault;
       first = reads;
       shown = blocks_read-fault file fault (are_bytes-drop (length file - 53) file bytes) reads;
@@ -114,10 +115,10 @@ damage_of result file (Err fault) calls before now bytes closed reads found =
 pub answered_damage : (result : Status) (file : List ℕ) (calls : List Call) (left before now : Option (List ℕ))
     → IsBytes file → ((blocks : List IndexedBlock) → Opens file blocks → ⊥)
     → IsFault result ⊎ (IsAnswered result (blocks_read file) calls before now × (left ≡ Some []))
-    → IsFault result ⊎ IsDamaged result file before now
+    → IsFault result ⊎ IsDamaged result file left before now
 answered_damage result file calls left before now bytes closed (inl fault) = inl fault
 answered_damage result file calls left before now bytes closed (inr found) =
-    inr (damage_of result file (blocks_read file) calls before now bytes closed refl found.0)
+    inr (damage_of result file (blocks_read file) calls left before now bytes closed refl found.0 found.1)
 
 -- words that have an OUT have no FILE
 one_name : (words : List (List ℕ)) (some other : List ℕ) → out_name words ≡ Some some → calls_name words ≡ Some other → ⊥

@@ -53,9 +53,10 @@ pub record AnsweredByWay (result : Status) (blocks : List IndexedBlock) (calls :
   pub read : left ≡ Some []
   pub printed : now ≡ append_known before (way_text blocks calls)
 
--- the first thing that is wrong with the file was printed, and the file shows it
-pub record IsDamaged (result : Status) (file : List ℕ) (before now : Option (List ℕ)) : Type 0 where
+-- the first thing that is wrong with the file was printed, the file shows it, and the input is read to its end
+pub record IsDamaged (result : Status) (file : List ℕ) (left before now : Option (List ℕ)) : Type 0 where
   pub ends : result ≡ File
+  pub read : left ≡ Some []
   pub fault : BbtFault
   pub first : blocks_read file ≡ Err fault
   pub shown : Shows file fault

@@ -155,7 +155,7 @@ pub fn run<F: Folder, I: Intake, O: Sink>(
         → file_of (F.held files.old) name ≡ Some file → IsBytes file
         → ((blocks : List IndexedBlock) → Opens file blocks → ⊥)
         → I.left input.old ≡ Some text → reading.read_calls text ≡ Ok calls
-        → IsFault result ⊎ IsDamaged result file (O.written out.old) (O.written out.new) }
+        → IsFault result ⊎ IsDamaged result file (I.left input.new) (O.written out.old) (O.written out.new) }
 
     // An input of `calls` that is refused: its whole text is printed, whatever the file.
     ensures calls_refused { (name text : List ℕ) (refusal : Refusal)
