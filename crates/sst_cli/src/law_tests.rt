@@ -1,7 +1,8 @@
 //! Each law is called once.
 use crate::laws::{
     a_call_line_reads_back, a_call_list_reads_back, a_list_is_cut_where_blocks_are_full,
-    a_list_reads_back, an_entry_line_reads_back, written_file_stands_for_its_list,
+    a_list_reads_back, an_entry_line_reads_back, what_a_text_says_fits,
+    written_file_stands_for_its_list,
 };
 use crate::opening_laws::{
     a_fault_is_shown, a_file_opens_to_its_blocks, a_file_that_opens_shows_no_fault,
@@ -17,6 +18,7 @@ fn laws(_rt: HostRuntime) -> Result<(), Fail> {
     a_list_reads_back();
     a_call_line_reads_back();
     a_call_list_reads_back();
+    what_a_text_says_fits();
     Ok(())
 }
 
