@@ -1,8 +1,9 @@
--- What a call line says, and the limits of its target.
-use Rattle.std.proofs.Common.{◌≡◌, ℕ, ◌<◌, ◌≤◌, ◌^◌, nat_le, Bool, true, false, cond, List, length, codes, Option, Some, None, Ok, refl, ap, ◌∙◌, arith}
+-- What a call line says, the limits of its target, and that its user key is bytes.
+use Rattle.std.proofs.Common.{◌≡◌, ℕ, ◌<◌, ◌≤◌, ◌^◌, nat_le, Bool, true, false, cond, List, length, codes, Option, Some, None, IfSome, Ok, refl, ap, ◌∙◌, subst, arith}
 use Rattle.std.specs.Str.{bytes_eq}
 use Rattle.std.proofs.lemmas.Bool.{le-ltb, lt-ltb, leb-true, le-leb, lt-leb}
 use Rattle.std.proofs.lemmas.Option.{option_and_then_some, cond_some}
+use Rattle.hex.specs.Hex.{IsBytes}
 use Rattle.sst_key.specs.declared.calls.Target.{Target}
 use Rattle.sst_key.specs.declared.calls.Call.{Call}
 use Rattle.sst_key.specs.declared.calls.Call.TheVariants.{Get, First, Last, Seek, SeekForPrev, Next, Prev}
@@ -11,10 +12,10 @@ use Rattle.sst_cli.specs.declared.refusal.Reason.TheVariants as why
 use Rattle.sst_cli.specs.declared.reading.InputStop.{InputStop}
 use Rattle.sst_cli.specs.declared.reading.InputStop.TheVariants as stop
 use Rattle.sst_cli.specs.Texts.{cut, bytes_field, seq_field}
-use Rattle.sst_cli.specs.CallText.{target_of_user, target_of, plain_call, call_to, call_of_parts, call_of_line, IsTargetInLimits, IsInLimits}
+use Rattle.sst_cli.specs.CallText.{target_of_user, target_of, plain_call, call_to, call_of_parts, call_of_line, target_in, IsTargetInLimits, IsInLimits, IsOfBytes}
 use Rattle.sst_cli.specs.Reading.{read_call, by_call, refused_at}
 use Rattle.sst_cli.specs.ReadingResult.{IsRefused}
-use Rattle.sst_cli.proofs.EntryLines.{seq_field-some}
+use Rattle.sst_cli.proofs.EntryLines.{seq_field-some, bytes_field-some}
 use Rattle.sst_cli.proofs.ReadFrom.{IsLimited}
 
 -- a line past its limit is refused for that, whatever calls came before
@@ -47,32 +48,53 @@ target_of-some text t e =
     option_and_then_some _ (bytes_field fields.0) t es (λ user _ eu.
     target_of_user-some seq user t (seq_field-some fields.1 seq is) eu)))
 
--- a choice by tests, of which each answer but the last is within the limits
-choose : (test : Bool) (call other : Call) (rest : Option Call) → IsInLimits call → (rest ≡ Some other → IsInLimits other) → cond test (Some call) rest ≡ Some other → IsInLimits other
-choose true call other rest within more e = rw (← same_some call other e) within
-choose false call other rest within more e = more e
+target_of_user-is : (seq : ℕ) (user : List ℕ) (t : Target) → target_of_user seq user ≡ Some t → user ≡ t.user
+target_of_user-is seq user t e = ap (λ (t : Target). t.user) (cond_some (nat_le (length user) 65536) (record { user = user; seq = seq }) t e).1
 
-plain_call-some : (name : List ℕ) (call : Call) → plain_call name ≡ Some call → IsInLimits call
-plain_call-some name call =
-    choose (bytes_eq name (codes "first")) First call _ tt
-    (choose (bytes_eq name (codes "last")) Last call _ tt
-    (choose (bytes_eq name (codes "next")) Next call _ tt
-    (choose (bytes_eq name (codes "prev")) Prev call None tt (λ e. absurd cc))))
+target_of-bytes : (text : List ℕ) (t : Target) → target_of text ≡ Some t → IsBytes t.user
+target_of-bytes text t e =
+    option_and_then_some _ (cut 32 text) t e (λ fields _ ef.
+    option_and_then_some _ (seq_field fields.1) t ef (λ seq _ es.
+    option_and_then_some _ (bytes_field fields.0) t es (λ user is eu.
+    subst IsBytes (target_of_user-is seq user t eu) (bytes_field-some fields.0 user is))))
 
-call_to-some : (name : List ℕ) (t : Target) (call : Call) → IsTargetInLimits t → call_to name t ≡ Some call → IsInLimits call
-call_to-some name t call within =
-    choose (bytes_eq name (codes "get")) (Get t) call _ within
-    (choose (bytes_eq name (codes "seek")) (Seek t) call _ within
-    (choose (bytes_eq name (codes "seek_for_prev")) (SeekForPrev t) call None within (λ e. absurd cc)))
+-- what holds of the target of a call, if it has one
+abbrev Of : (Target → Type 0) → Call → Type 0
+Of P call = IfSome (target_in call) P
 
-call_of_parts-some : (line : List ℕ) (parts : Option (List ℕ × List ℕ)) (call : Call) → call_of_parts line parts ≡ Some call → IsInLimits call
-call_of_parts-some line None call e = plain_call-some line call e
-call_of_parts-some line (Some parts) call e =
-    option_and_then_some (call_to parts.0) (target_of parts.1) call e (λ t is more. call_to-some parts.0 t call (target_of-some parts.1 t is) more)
+-- a choice by tests, of which it holds of each answer but the last
+choose : (P : Target → Type 0) (test : Bool) (call other : Call) (rest : Option Call) → Of P call → (rest ≡ Some other → Of P other)
+    → cond test (Some call) rest ≡ Some other → Of P other
+choose P true call other rest within more e = rw (← same_some call other e) within
+choose P false call other rest within more e = more e
+
+plain_call-some : (P : Target → Type 0) (name : List ℕ) (call : Call) → plain_call name ≡ Some call → Of P call
+plain_call-some P name call =
+    choose P (bytes_eq name (codes "first")) First call _ tt
+    (choose P (bytes_eq name (codes "last")) Last call _ tt
+    (choose P (bytes_eq name (codes "next")) Next call _ tt
+    (choose P (bytes_eq name (codes "prev")) Prev call None tt (λ e. absurd cc))))
+
+call_to-some : (P : Target → Type 0) (name : List ℕ) (t : Target) (call : Call) → P t → call_to name t ≡ Some call → Of P call
+call_to-some P name t call within =
+    choose P (bytes_eq name (codes "get")) (Get t) call _ within
+    (choose P (bytes_eq name (codes "seek")) (Seek t) call _ within
+    (choose P (bytes_eq name (codes "seek_for_prev")) (SeekForPrev t) call None within (λ e. absurd cc)))
+
+-- what holds of each target that is read holds of that of a call line
+call_of_parts-some : (P : Target → Type 0) → ((text : List ℕ) (t : Target) → target_of text ≡ Some t → P t)
+    → (line : List ℕ) (parts : Option (List ℕ × List ℕ)) (call : Call) → call_of_parts line parts ≡ Some call → Of P call
+call_of_parts-some P of line None call e = plain_call-some P line call e
+call_of_parts-some P of line (Some parts) call e =
+    option_and_then_some (call_to parts.0) (target_of parts.1) call e (λ t is more. call_to-some P parts.0 t call (of parts.1 t is) more)
 
 -- the target of a call line is in its limits
 pub call_of_line-some : (line : List ℕ) (call : Call) → call_of_line line ≡ Some call → IsInLimits call
-call_of_line-some line call e = call_of_parts-some line (cut 32 line) call e
+call_of_line-some line call e = call_of_parts-some IsTargetInLimits target_of-some line (cut 32 line) call e
+
+-- and its user key is bytes
+pub call_of_line-bytes : (line : List ℕ) (call : Call) → call_of_line line ≡ Some call → IsOfBytes call
+call_of_line-bytes line call e = call_of_parts-some (λ target. IsBytes target.user) target_of-bytes line (cut 32 line) call e
 
 -- ---- what a line comes to
 

@@ -1,7 +1,11 @@
--- The sequence number of an entry line is in its range.
-use Rattle.std.proofs.Common.{◌≡◌, ℕ, ◌^◌, ◌<◌, ◌==◌, true, false, cond, nat_lt, List, [], ◌∷◌, Some, None, option_and_then, sym, ap, arith}
+-- The sequence number of an entry line is in its range, and its user key and value are bytes.
+use Rattle.std.proofs.Common.{◌≡◌, ℕ, ◌^◌, ◌<◌, ◌==◌, true, false, cond, nat_lt, List, [], ◌∷◌, Some, None, option_and_then, Result, Ok, Err, sym, ap, subst, arith}
+use Rattle.std.specs.Result.{result_ok}
 use Rattle.std.proofs.lemmas.Bool.{ltb-true}
 use Rattle.std.proofs.lemmas.Option.{option_and_then_some, cond_some}
+use Rattle.hex.specs.Hex.{IsBytes, decode_of}
+use Rattle.hex.specs.declared.error.FromHexError.{FromHexError}
+use Rattle.hex.proofs.HexLemmas.{decode_of-ok}
 use Rattle.sst_key.specs.declared.entries.Entry.{Entry}
 use Rattle.sst_cli.specs.Texts.{cut, digits_from, in_range, seq_field, kind_field, bytes_field, Fields, fields_of, entry_of_fields, entry_of_line}
 
@@ -52,3 +56,30 @@ entry_of_line-seq line entry e =
     let same = entry_of_fields-some fields entry made in
     let low = fields_of-some line fields of in
     omega arith)
+
+-- ---- bytes
+
+ok_of-some : (read : Result (List ℕ) FromHexError) (bytes : List ℕ) → result_ok read ≡ Some bytes → read ≡ Ok bytes
+ok_of-some (Ok x) bytes e = ap Ok (same_some x bytes e)
+ok_of-some (Err w) bytes e = absurd cc
+
+-- a field of hex digits gives bytes
+pub bytes_field-some : (field bytes : List ℕ) → bytes_field field ≡ Some bytes → IsBytes bytes
+bytes_field-some [] bytes e = absurd cc
+bytes_field-some (c ∷ []) bytes e = subst IsBytes (cond_some (c == 45) [] bytes e).1 (λ k. omega arith)
+bytes_field-some (c ∷ d ∷ rest) bytes e = (decode_of-ok (c ∷ d ∷ rest) bytes (ok_of-some (decode_of (c ∷ d ∷ rest)) bytes e)).3
+
+entry_of_fields-bytes : (fields : Fields) (e : Entry) → entry_of_fields fields ≡ Some e → IsBytes e.user × IsBytes e.value
+unfolding entry_of_fields
+entry_of_fields-bytes fields entry e =
+    option_and_then_some _ (bytes_field fields.user) entry e (λ user reads eu.
+    option_and_then_some _ (bytes_field fields.value) entry eu (λ value read ev.
+    let made = same_some _ entry ev in (
+      subst IsBytes (ap (λ (f : Entry). f.user) made) (bytes_field-some fields.user user reads),
+      subst IsBytes (ap (λ (f : Entry). f.value) made) (bytes_field-some fields.value value read),
+    )))
+
+-- the user key and the value of an entry line are bytes
+pub entry_of_line-bytes : (line : List ℕ) (e : Entry) → entry_of_line line ≡ Some e → IsBytes e.user × IsBytes e.value
+entry_of_line-bytes line entry e =
+    option_and_then_some entry_of_fields (fields_of line) entry e (λ fields _ made. entry_of_fields-bytes fields entry made)

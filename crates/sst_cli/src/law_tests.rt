@@ -1,7 +1,8 @@
 //! The laws take no value and answer none: that they can be called is all that a test can show.
 use crate::laws::{
     a_call_line_reads_back, a_call_list_reads_back, a_list_is_cut_where_blocks_are_full,
-    a_list_reads_back, an_entry_line_reads_back, written_file_stands_for_its_list,
+    a_list_reads_back, an_entry_line_reads_back, what_a_text_says_fits,
+    written_file_stands_for_its_list,
 };
 use crate::opening_laws::{
     a_fault_is_shown, a_file_opens_to_its_blocks, a_file_that_opens_shows_no_fault,
@@ -16,6 +17,7 @@ fn laws(_rt: HostRuntime) {
     a_list_reads_back();
     a_call_line_reads_back();
     a_call_list_reads_back();
+    what_a_text_says_fits();
     a_file_opens_to_its_blocks();
     a_written_file_reads_back();
     a_fault_is_shown();

@@ -65,3 +65,15 @@ pub fn a_call_list_reads_back()
     ensures { (calls : List Call) → length calls ≤ 1048576 → AreInLimits calls → AreOfBytes calls
         → read_calls (calls_text calls) ≡ Ok calls }
 {}
+
+/// What a text says is within the limits: a list that is written, or calls of which there are few enough.
+///
+/// `list`: the entries that a text says increase, are of bytes and within their limits, and weigh at most 2^28. `calls`:
+/// the calls that a text says are at most 1,048,576, and their targets have user keys of at most 65,536 bytes and sequence
+/// numbers below 2^56. So each list that an input says is one that is written, and its text reads back; the same of calls.
+/// The texts and the limits are this project's own.
+pub fn what_a_text_says_fits()
+    ensures list { (text : List ℕ) (entries : List Entry) → read_input text ≡ Ok entries → Fits entries × AreBytes entries }
+    ensures calls { (text : List ℕ) (calls : List Call) → read_calls text ≡ Ok calls
+        → (length calls ≤ 1048576) × AreInLimits calls × AreOfBytes calls }
+{}

@@ -91,8 +91,10 @@
 //! - For each other input the first refusal is printed, a line and a reason; of `calls` whatever the file is.
 //! - What is `Written` for a list stands for it ([`written_file_stands_for_its_list`]). An entry's line reads
 //!   back as the entry ([`an_entry_line_reads_back`]), a list's text as the list ([`a_list_reads_back`]), and the same of
-//!   calls ([`a_call_line_reads_back`], [`a_call_list_reads_back`]).
-//! - The data blocks of a list end where they are full, and no sooner ([`a_list_is_cut_where_blocks_are_full`]).
+//!   calls ([`a_call_line_reads_back`], [`a_call_list_reads_back`]). What a text says is within the limits that
+//!   these ask for ([`what_a_text_says_fits`]).
+//! - The data blocks of a list end where they are full, and no sooner; no other blocks of its entries do
+//!   ([`a_list_is_cut_where_blocks_are_full`]).
 //! - A file opens to data blocks exactly where it reads as them ([`a_file_opens_to_its_blocks`]), and, if it is of bytes,
 //!   shows a fault exactly where it opens to none ([`a_file_that_opens_shows_no_fault`]). It stands for one list at most
 //!   (`a_file_stands_for_one_list`, sst_bbt_spec).
@@ -161,7 +163,8 @@ mod write_command;
 pub use bbt_fault::BbtFault;
 pub use laws::{
     a_call_line_reads_back, a_call_list_reads_back, a_list_is_cut_where_blocks_are_full,
-    a_list_reads_back, an_entry_line_reads_back, written_file_stands_for_its_list,
+    a_list_reads_back, an_entry_line_reads_back, what_a_text_says_fits,
+    written_file_stands_for_its_list,
 };
 pub use opening_laws::{
     a_fault_is_shown, a_file_opens_to_its_blocks, a_file_that_opens_shows_no_fault,
