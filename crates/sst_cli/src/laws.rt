@@ -1,5 +1,7 @@
 //! What is true of each file and of each text, whatever code makes or reads it.
-ghost use Rattle.std.specs.Prelude.{◌≡◌, ℕ, ◌<◌, ◌≤◌, ◌^◌, List, length, Some, Ok};
+ghost use Rattle.std.specs.Prelude.{◌≡◌, ℕ, ◌<◌, ◌≤◌, ◌^◌, List, ◌∷◌, ◌++◌, length, map, Some, Ok};
+ghost use Rattle.std.specs.Char.{to_ascii_lowercase};
+ghost use Rattle.std.specs.Fmt.{decimal};
 ghost use Rattle.hex.specs.Hex.{IsBytes};
 ghost use Rattle.sst_key.specs.declared.calls.Call.{Call};
 ghost use Rattle.sst_key.specs.declared.entries.Entry.{Entry};
@@ -7,7 +9,7 @@ ghost use Rattle.sst_cli.specs.Written.{Fits, Written, table_of};
 ghost use Rattle.sst_cli.specs.Cut.{AreBlocks, blocks_for, entries_in};
 ghost use Rattle.sst_cli.specs.Texts.{entry_of_line};
 ghost use Rattle.sst_cli.specs.declared.bbt_options.BbtOptions.{BbtOptions};
-ghost use Rattle.sst_cli.specs.EntryText.{AreBytes, entry_line, lines_text};
+ghost use Rattle.sst_cli.specs.EntryText.{AreBytes, hex_text, kind_letter, entry_line, lines_text};
 ghost use Rattle.sst_cli.specs.CallText.{IsInLimits, IsOfBytes, AreInLimits, AreOfBytes, call_of_line, call_line, calls_text};
 ghost use Rattle.sst_cli.specs.Reading.{read_input, read_calls};
 
@@ -37,6 +39,18 @@ pub fn a_list_is_cut_where_blocks_are_full()
 /// It holds of each entry of bytes whose sequence number is below 2^56. The lines are this project's own.
 pub fn an_entry_line_reads_back()
     ensures { (e : Entry) → IsBytes e.user → IsBytes e.value → e.seq < 2 ^ 56 → entry_of_line (entry_line e) ≡ Some e }
+{}
+
+/// A line that reads as an entry is the line that is written for it, but for the case of its hex digits.
+///
+/// `fields`: it has that line's sequence number and kind, and its user key and value but for their case. `line`: in lower
+/// case the two are one. The lines are this project's own.
+pub fn an_entry_line_is_that_of_its_entry()
+    ensures fields { (line : List ℕ) (e : Entry) → entry_of_line line ≡ Some e → (user value : List ℕ)
+        × (line ≡ user ++ (32 ∷ (decimal e.seq ++ (32 ∷ kind_letter e.kind ∷ 32 ∷ value))))
+        × (map to_ascii_lowercase user ≡ hex_text e.user) × (map to_ascii_lowercase value ≡ hex_text e.value) }
+    ensures line { (line : List ℕ) (e : Entry) → entry_of_line line ≡ Some e
+        → map to_ascii_lowercase line ≡ map to_ascii_lowercase (entry_line e) }
 {}
 
 /// The text that is written for a list reads back as the list.
