@@ -30,7 +30,7 @@ empty-fault file end h (row ∷ rest) fault reached at e = cc
 data_read-fault : (file : List ℕ) (end : ℕ) (h : Handle) (fault : BbtFault) → IndexLeads file end h → data_read file end h ≡ Err fault → Shows file fault
 data_read-fault file end h fault reached e =
     then_open-err (block_at bbt.Frame (bbt.Block h) Entries file end h) (with_rows h) fault e
-    (λ first. block_at-fault bbt.Frame (bbt.Block h) Entries file end h fault first
+    (λ first. block_at-fault bbt.Frame (bbt.Block h) Entries file end h fault tt first
     (λ f is same. subst (λ f. Shows file f) same (inr (end, h, reached, is)))
     (λ block framed f is same. subst (λ f. Shows file f) same (inr (end, block, reached, framed, is))))
     (λ rows found last. empty-fault file end h rows fault reached (block_at-found bbt.Frame (bbt.Block h) Entries file end h rows tt found) last)
@@ -71,7 +71,7 @@ blocks_read-fault file fault bytes e =
     let metaindex = loaded.footer.meta in
     let index = loaded.footer.index in
     then_open-err (block_at bbt.Frame (bbt.Block index) (Index false false) file end index) (runs_read file end) fault e
-    (λ first. block_at-fault bbt.Frame (bbt.Block index) (Index false false) file end index fault first
+    (λ first. block_at-fault bbt.Frame (bbt.Block index) (Index false false) file end index fault tt first
     (λ f is same. subst (λ f. Shows file f) same (inl (end, index, (metaindex, leads, refl, refl), is)))
     (λ block framed f is same. subst (λ f. Shows file f) same (inl (end, block, (metaindex, leads, refl, refl), framed, is))))
     (λ rows read last.

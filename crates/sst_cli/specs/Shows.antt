@@ -8,9 +8,9 @@ use Rattle.sst_block.specs.declared.row_form.RowForm.{RowForm}
 use Rattle.sst_block.specs.declared.row_form.RowForm.TheVariants.{Entries, Index}
 use Rattle.sst_block.specs.declared.fault.BlockFault.{BlockFault}
 use Rattle.sst_block.specs.Block.{Block}
-use Rattle.sst_block.specs.Reading.{block_read}
+use Rattle.sst_block.specs.FirstFault.{IsFirstFault}
 use Rattle.sst_device.specs.Framed.{Framed}
-use Rattle.sst_device.specs.FrameReading.{frame_read}
+use Rattle.sst_device.specs.FrameFaults.{IsFrameFault}
 use Rattle.sst_device.specs.declared.frame.FrameFault.{FrameFault}
 use Rattle.sst_meta.specs.MetaFaults.{ShowsMeta}
 use Rattle.sst_bbt_spec.specs.Reached.{IsReached}
@@ -19,12 +19,12 @@ use Rattle.sst_cli.specs.declared.bbt_fault.BbtFault.TheVariants as bbt
 
 -- the block at a handle that is reached isn't framed: this is the first thing that is wrong with its frame
 abbrev pub ShowsFrame : List ℕ → RowForm → FrameFault → Type 0
-ShowsFrame file form fault = (end : ℕ) × (h : Handle) × IsReached file end form h × (frame_read file end h ≡ Err fault)
+ShowsFrame file form fault = (end : ℕ) × (h : Handle) × IsReached file end form h × IsFrameFault file end h fault
 
 -- the block at a handle that is reached is framed, and this is its first fault
 abbrev pub ShowsBlock : List ℕ → RowForm → Handle → BlockFault → Type 0
 ShowsBlock file form h fault =
-    (end : ℕ) × (bytes : List ℕ) × IsReached file end form h × Framed file end h bytes × (block_read form bytes ≡ Err fault)
+    (end : ℕ) × (bytes : List ℕ) × IsReached file end form h × Framed file end h bytes × IsFirstFault form bytes fault
 
 -- the file shows the fault
 abbrev pub Shows : List ℕ → BbtFault → Type 0

@@ -6,13 +6,16 @@ use Rattle.sst_block.specs.declared.fault.BlockFault.{BlockFault}
 use Rattle.sst_block.specs.Block.{Row, Block}
 use Rattle.sst_block.specs.Builder.{HasNoFlags}
 use Rattle.sst_block.specs.Reading.{block_read}
+use Rattle.sst_block.specs.FirstFault.{IsFirstFault}
 use Rattle.sst_block.proofs.BlockRead.{read-complete, read-sound}
+use Rattle.sst_block.proofs.FirstFaults.{read-first, first-read}
 use Rattle.sst_block.proofs.OneReading.{one-list, no-rows}
 use Rattle.sst_device.specs.Framed.{Framed}
 use Rattle.sst_device.specs.FrameReading.{frame_read}
+use Rattle.sst_device.specs.FrameFaults.{IsFrameFault}
 use Rattle.sst_meta.specs.Blocks.{as_fault, block_at}
 use Rattle.sst_device.specs.declared.frame.FrameFault.{FrameFault}
-use Rattle.sst_device.proofs.FramesRead.{frame_read-framed, framed-read}
+use Rattle.sst_device.proofs.FramesRead.{frame_read-framed, framed-read, frame-fault, frame_read-fault}
 use Rattle.sst_meta.proofs.ReadSteps.{then_open-ok, then_open-err, as_fault-ok, as_fault-err}
 
 -- the rows of the block that is framed at a handle
@@ -52,15 +55,15 @@ block_at-found frame block form file end h rows plain e =
 
 -- a fault is one of the frame, or of the block in it
 pub block_at-fault : {F P : Type 0} (frame : FrameFault → F) (block : BlockFault → F) (form : RowForm) (file : List ℕ) (end : ℕ) (h : Handle) (fault : F)
-    → block_at frame block form file end h ≡ Err fault
-    → ((f : FrameFault) → frame_read file end h ≡ Err f → frame f ≡ fault → P)
-    → ((bytes : List ℕ) → Framed file end h bytes → (f : BlockFault) → block_read form bytes ≡ Err f → block f ≡ fault → P) → P
-block_at-fault frame block form file end h fault e of_frame of_block =
+    → HasNoFlags form → block_at frame block form file end h ≡ Err fault
+    → ((f : FrameFault) → IsFrameFault file end h f → frame f ≡ fault → P)
+    → ((bytes : List ℕ) → Framed file end h bytes → (f : BlockFault) → IsFirstFault form bytes f → block f ≡ fault → P) → P
+block_at-fault frame block form file end h fault plain e of_frame of_block =
     then_open-err (as_fault frame (frame_read file end h)) _ fault e
-    (λ first. as_fault-err frame (frame_read file end h) fault first of_frame)
+    (λ first. as_fault-err frame (frame_read file end h) fault first (λ f is same. of_frame f (frame-fault file end h f is) same))
     (λ bytes found e. then_open-err (as_fault block (block_read form bytes)) _ fault e
     (λ first. as_fault-err block (block_read form bytes) fault first
-    (of_block bytes (framed-read file end h bytes (as_fault-ok frame (frame_read file end h) bytes found))))
+    (λ f is same. of_block bytes (framed-read file end h bytes (as_fault-ok frame (frame_read file end h) bytes found)) f (read-first form bytes f plain is) same))
     (λ spelled read last. cc))
 
 -- the same of the parts
@@ -93,11 +96,12 @@ rows-once form file end h rows others bytes at framed block =
 
 -- where rows stand, the frame has no fault, and neither has the block
 pub no-frame_fault : (form : RowForm) (file : List ℕ) (end : ℕ) (h : Handle) (rows : List Row) (fault : FrameFault) → RowsAt form file end h rows
-    → frame_read file end h ≡ Err fault → ⊥
-no-frame_fault form file end h rows fault at wrong = cc (frame_read-framed file end h at.bytes at.framed, wrong)
+    → IsFrameFault file end h fault → ⊥
+no-frame_fault form file end h rows fault at wrong = cc (frame_read-framed file end h at.bytes at.framed, frame_read-fault file end h fault wrong)
 
 pub no-block_fault : (form : RowForm) (file : List ℕ) (end : ℕ) (h : Handle) (rows : List Row) (bytes : List ℕ) (fault : BlockFault) → HasNoFlags form
-    → RowsAt form file end h rows → Framed file end h bytes → block_read form bytes ≡ Err fault → ⊥
+    → RowsAt form file end h rows → Framed file end h bytes → IsFirstFault form bytes fault → ⊥
 no-block_fault form file end h rows bytes fault plain at framed wrong =
     let same = bytes-once form file end h rows bytes at framed in
-    no-rows form at.bytes fault rows plain (subst (λ (b : List ℕ). block_read form b ≡ Err fault) (sym same) wrong) at.block
+    let read = first-read form bytes fault plain (framed-short file end h bytes framed) wrong in
+    no-rows form at.bytes fault rows plain (subst (λ (b : List ℕ). block_read form b ≡ Err fault) (sym same) read) at.block

@@ -91,7 +91,7 @@ props-shown file end names (Some value) fault has is e =
       | Some h ↦ λ read e.
           let lead : PropsLead file end h = (names, value, has, is, handle_in-found h value read) in
           then_open-err (block_at meta.Frame (meta.Block h) Names file end h) sound_props fault e
-          (λ first. block_at-fault meta.Frame (meta.Block h) Names file end h fault first
+          (λ first. block_at-fault meta.Frame (meta.Block h) Names file end h fault tt first
           (λ f wrong same. subst (λ f. ShowsMeta file f) same (end, h, inr lead, wrong))
           (λ block framed f wrong same. subst (λ f. ShowsMeta file f) same (end, block, inr lead, framed, wrong)))
           (λ rows found last.
@@ -183,7 +183,7 @@ load-shown file fault bytes e =
     let h = footer.meta in
     let leads = (leads-read file footer read).0 in
     then_open-err (block_at meta.Frame (meta.Block h) Names file end h) _ fault e
-    (λ first. block_at-fault meta.Frame (meta.Block h) Names file end h fault first
+    (λ first. block_at-fault meta.Frame (meta.Block h) Names file end h fault tt first
     (λ f is same. subst (λ f. ShowsMeta file f) same (end, h, inl (footer.index, leads), is))
     (λ block framed f is same. subst (λ f. ShowsMeta file f) same (end, block, inl (footer.index, leads), framed, is)))
     (λ names found e.

@@ -7,9 +7,9 @@ use Rattle.sst_num.specs.Spelling.{fixed, varint, handle_spelling}
 use Rattle.sst_num.specs.declared.block_handle.Handle.{Handle}
 use Rattle.sst_block.specs.declared.row_form.RowForm.TheVariants.{Names}
 use Rattle.sst_block.specs.Block.{Row}
-use Rattle.sst_block.specs.Reading.{block_read}
+use Rattle.sst_block.specs.FirstFault.{IsFirstFault}
 use Rattle.sst_device.specs.Framed.{Framed}
-use Rattle.sst_device.specs.FrameReading.{frame_read}
+use Rattle.sst_device.specs.FrameFaults.{IsFrameFault}
 use Rattle.sst_meta.specs.BlockFooter.{EndsWith, EndsIn, IsTable, IsOtherTable, IsBuilt, FooterLeads}
 use Rattle.sst_meta.specs.Footer.{legacy_block_based_magic, AreHandles}
 use Rattle.sst_meta.specs.Meta.{HasPairs}
@@ -99,9 +99,9 @@ ShowsMeta file meta.BadFooter =
     × ((metaindex : Handle) (index : Handle) → AreHandles metaindex index between → ⊥)
 ShowsMeta file meta.FileLong = 2 ^ 40 ≤ length file
 ShowsMeta file (meta.Frame fault) =
-    (end : ℕ) × (handle : Handle) × IsMetaReached file end handle × (frame_read file end handle ≡ Err fault)
+    (end : ℕ) × (handle : Handle) × IsMetaReached file end handle × IsFrameFault file end handle fault
 ShowsMeta file (meta.Block handle fault) =
-    (end : ℕ) × (block : List ℕ) × IsMetaReached file end handle × Framed file end handle block × (block_read Names block ≡ Err fault)
+    (end : ℕ) × (block : List ℕ) × IsMetaReached file end handle × Framed file end handle block × IsFirstFault Names block fault
 ShowsMeta file meta.RangeTombstones =
     (end : ℕ) × (names : List Row) × (value : List ℕ) × HasNames file end names × (value_of range_tombstones names ≡ Some value)
 ShowsMeta file meta.Comparator = (value : List ℕ) × HasValue file comparator value × (value ≢ bytewise)
