@@ -1,16 +1,17 @@
 //! What is true of each file and of each text, whatever code makes or reads it.
-ghost use Rattle.std.specs.Prelude.{◌≡◌, ℕ, ◌<◌, ◌≤◌, ◌^◌, List, ◌∷◌, ◌++◌, length, map, Some, Ok};
+ghost use Rattle.std.specs.Prelude.{◌≡◌, ℕ, ◌<◌, ◌≤◌, ◌^◌, List, ◌∷◌, ◌++◌, length, map, Some, None, Ok};
 ghost use Rattle.std.specs.Char.{to_ascii_lowercase};
 ghost use Rattle.std.specs.Fmt.{decimal};
 ghost use Rattle.hex.specs.Hex.{IsBytes};
 ghost use Rattle.sst_key.specs.declared.calls.Call.{Call};
+ghost use Rattle.sst_key.specs.declared.calls.Target.{Target};
 ghost use Rattle.sst_key.specs.declared.entries.Entry.{Entry};
 ghost use Rattle.sst_cli.specs.Written.{Fits, Written, table_of};
 ghost use Rattle.sst_cli.specs.Cut.{AreBlocks, blocks_for, entries_in};
 ghost use Rattle.sst_cli.specs.Texts.{entry_of_line};
 ghost use Rattle.sst_cli.specs.declared.bbt_options.BbtOptions.{BbtOptions};
 ghost use Rattle.sst_cli.specs.EntryText.{AreBytes, hex_text, kind_letter, entry_line, lines_text};
-ghost use Rattle.sst_cli.specs.CallText.{IsInLimits, IsOfBytes, AreInLimits, AreOfBytes, call_of_line, call_line, calls_text};
+ghost use Rattle.sst_cli.specs.CallText.{IsInLimits, IsOfBytes, AreInLimits, AreOfBytes, call_of_line, call_name, target_in, call_line, calls_text};
 ghost use Rattle.sst_cli.specs.Reading.{read_input, read_calls};
 
 /// The file that is written for a list stands for that list.
@@ -68,6 +69,20 @@ pub fn a_list_reads_back()
 /// below 2^56. The lines are this project's own.
 pub fn a_call_line_reads_back()
     ensures { (call : Call) → IsInLimits call → IsOfBytes call → call_of_line (call_line call) ≡ Some call }
+{}
+
+/// A line that reads as a call is the line that is written for it, but for the case of its hex digits.
+///
+/// `without_target`: the line of such a call is its name. `with_target`: it is the name, a user key in whatever case, and the
+/// sequence number. `line`: in lower case the two lines are one. The lines are this project's own.
+pub fn a_call_line_is_that_of_its_call()
+    ensures without_target { (line : List ℕ) (call : Call) → call_of_line line ≡ Some call → target_in call ≡ None
+        → line ≡ call_name call }
+    ensures with_target { (line : List ℕ) (call : Call) (target : Target) → call_of_line line ≡ Some call
+        → target_in call ≡ Some target → (user : List ℕ)
+        × (line ≡ call_name call ++ (32 ∷ (user ++ (32 ∷ decimal target.seq)))) × (map to_ascii_lowercase user ≡ hex_text target.user) }
+    ensures line { (line : List ℕ) (call : Call) → call_of_line line ≡ Some call
+        → map to_ascii_lowercase line ≡ map to_ascii_lowercase (call_line call) }
 {}
 
 /// The text that is written for a list of calls reads back as the list.
