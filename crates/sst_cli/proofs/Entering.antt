@@ -16,20 +16,8 @@ use Rattle.sst_cli.specs.Written.{Fits, index_rows, key_bytes, value_bytes}
 use Rattle.sst_cli.proofs.Rows.{length-key_of, weight-append}
 use Rattle.sst_cli.proofs.Added.{data_takes, data-more, last-more, has_room}
 use Rattle.sst_cli.proofs.CutSteps.{of-entry}
-use Rattle.sst_bbt_spec.proofs.WayLaws.{All-back}
-use Rattle.sst_bbt_spec.proofs.Separating.{ordered-back}
-use Rattle.sst_cli.proofs.IndexRoom.{weight-both}
+use Rattle.sst_cli.proofs.ListParts.{fits-back}
 use Rattle.sst_cli.proofs.Ending.{of-kept}
-
--- the back of a list that is written is such a list
-fits-back : (front back : List Entry) → Fits (front ++ back) → Fits back
-fits-back front back fits =
-    let light = fits.light in
-    record {
-      ordered = ordered-back front back fits.ordered;
-      limits = All-back IsInLimits front back fits.limits;
-      light = omega (arith, weight-both front back);
-    }
 
 -- the block with the entry is such a list
 block-fits : (w : BbtWriter) (cut : Blocks) (entries : List Entry) (bytes : List ℕ) (e : Entry) → Keeps w cut entries bytes → Fits (entries ++ e ∷ []) → Fits (cut.current ++ e ∷ [])
