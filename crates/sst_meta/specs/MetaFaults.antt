@@ -2,7 +2,7 @@
 -- metaindex leads to, or of a property.
 -- RocksDB: Status::Corruption and Status::NotSupported of Footer::DecodeFrom in table/format.cc, of ReadTableProperties in
 -- table/meta_blocks.cc, and of BlockBasedTable::Open in table/block_based/block_based_table_reader.cc.
-use Rattle.std.specs.Prelude.{◌≡◌, ◌≢◌, ◌⊎◌, ℕ, ◌^◌, ◌<◌, ◌≤◌, List, length, None, Some, Err}
+use Rattle.std.specs.Prelude.{◌≡◌, ◌≢◌, ◌⊎◌, ℕ, ◌^◌, ◌<◌, ◌≤◌, List, length, None, Some}
 use Rattle.sst_num.specs.Spelling.{fixed, varint, handle_spelling}
 use Rattle.sst_num.specs.declared.block_handle.Handle.{Handle}
 use Rattle.sst_block.specs.declared.row_form.RowForm.TheVariants.{Names}
