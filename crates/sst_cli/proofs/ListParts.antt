@@ -1,13 +1,9 @@
 -- What a part of a list that is written has of the list, and its last entry.
-use Rattle.std.proofs.Common.{◌≡◌, ◌≤◌, List, [], ◌∷◌, ◌++◌, All, refl, ◌∙◌, arith}
+use Rattle.std.proofs.Common.{◌≡◌, List, [], ◌∷◌, ◌++◌, All, refl, arith}
 use Rattle.std.proofs.lemmas.List.Elements.{All-head, All-tail}
-use Rattle.std.proofs.lemmas.List.Sums.{sum_by-append, sum_by-cons}
-use Rattle.std.specs.declared.cmp.Ordering.TheVariants.{Less}
+use Rattle.std.proofs.lemmas.List.Sums.{sum_by-append}
 use Rattle.sst_key.specs.declared.entries.Entry.{Entry}
-use Rattle.sst_key.specs.Entry.{key_of, IsBefore, IsOrdered, entry_weight, weight}
-use Rattle.sst_key.specs.InternalKey.{internal_cmp}
-use Rattle.sst_key.proofs.KeyParts.{internal_cmp-entries, less-from_IsBefore}
-use Rattle.sst_key.proofs.TargetOrder.{IsBefore-trans}
+use Rattle.sst_key.specs.Entry.{key_of, IsBefore, IsOrdered, entry_weight}
 use Rattle.sst_block.specs.Builder.{last_key}
 use Rattle.sst_bbt_spec.specs.Rows.{rows_of}
 use Rattle.sst_bbt_spec.proofs.Separating.{ordered-front, ordered-back}

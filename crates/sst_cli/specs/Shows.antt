@@ -2,7 +2,7 @@
 -- footer or its index leads to.
 -- RocksDB: Status::Corruption and Status::NotSupported of BlockBasedTable::Open and of its iterators, in
 -- table/block_based/block_based_table_reader.cc.
-use Rattle.std.specs.Prelude.{◌≡◌, ◌⊎◌, ℕ, false, List, [], Err}
+use Rattle.std.specs.Prelude.{◌⊎◌, ℕ, false, List, []}
 use Rattle.sst_num.specs.declared.block_handle.Handle.{Handle}
 use Rattle.sst_block.specs.declared.row_form.RowForm.{RowForm}
 use Rattle.sst_block.specs.declared.row_form.RowForm.TheVariants.{Entries, Index}
