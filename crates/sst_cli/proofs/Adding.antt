@@ -10,17 +10,20 @@ use Rattle.sst_cli.specs.Reading.{read_line}
 use Rattle.sst_cli.proofs.Rows.{weight-append}
 use Rattle.sst_cli.proofs.ReadFrom.{IsLimited}
 use Rattle.sst_cli.proofs.ReadingOn.{IsReadTo}
+use Rattle.sst_cli.proofs.Taken.{IsPast}
 
 -- a line past its limit is refused for that, whatever entries came before
 pub read_line-limited : IsLimited read_line
 unfolding read_line
 read_line-limited entries line long = rw (lt-ltb 40000000 (length line) long) refl
 
--- the entries so far were added, and reading the whole input is reading on after them
-pub record Adding (start left : Option (List ℕ)) (first writer : BbtWriter) (file : List ℕ) (before faults : ℕ) : Type 0 where
+-- the entries so far were added, reading the whole input is reading on after them, and at most a piece of it is held
+pub record Adding (start left : Option (List ℕ)) (held : List ℕ) (first writer : BbtWriter) (file : List ℕ) (before faults : ℕ) : Type 0 where
   pub entries : List Entry
   pub after : After writer entries file
   pub said : IsReadTo read_line entries start left
+  pub past : IsPast (length entries) start left
+  pub short : length held ≤ 65536
   pub counts : faults ≡ before
   pub options : writer.options ≡ first.options
 

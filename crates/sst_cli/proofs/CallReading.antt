@@ -5,10 +5,13 @@ use Rattle.sst_key.specs.declared.calls.Call.{Call}
 use Rattle.sst_cli.specs.CallText.{IsInLimits, AreInLimits}
 use Rattle.sst_cli.specs.Reading.{read_call}
 use Rattle.sst_cli.proofs.ReadingOn.{IsReadTo}
+use Rattle.sst_cli.proofs.Taken.{IsPast}
 
--- the calls so far were read, and reading the whole input is reading on after them
-pub record ReadingCalls (start left : Option (List ℕ)) (calls : List Call) (before faults : ℕ) : Type 0 where
+-- the calls so far were read, reading the whole input is reading on after them, and at most a piece of it is held
+pub record ReadingCalls (start left : Option (List ℕ)) (held : List ℕ) (calls : List Call) (before faults : ℕ) : Type 0 where
   pub said : IsReadTo read_call calls start left
+  pub past : IsPast (length calls) start left
+  pub short : length held ≤ 65536
   pub limits : AreInLimits calls
   pub few : length calls ≤ 1048576
   pub counts : faults ≡ before

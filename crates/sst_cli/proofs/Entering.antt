@@ -12,7 +12,7 @@ use Rattle.sst_bbt_spec.specs.Rows.{rows_of}
 use Rattle.sst_cli.specs.declared.bbt_writer.BbtWriter.{BbtWriter}
 use Rattle.sst_cli.specs.Cut.{Blocks, entries_in}
 use Rattle.sst_cli.specs.Keeps.{Keeps, with_entry}
-use Rattle.sst_cli.specs.Written.{Fits, index_rows, key_bytes, value_bytes}
+use Rattle.sst_cli.specs.Written.{Fits, IsInLimits, index_rows, key_bytes, value_bytes}
 use Rattle.sst_cli.proofs.Rows.{length-key_of, weight-append}
 use Rattle.sst_cli.proofs.Added.{data_takes, data-more, last-more, has_room}
 use Rattle.sst_cli.proofs.CutSteps.{of-entry}

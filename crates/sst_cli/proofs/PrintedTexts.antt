@@ -42,7 +42,7 @@ some_text (Some input) = (text_for (read_input input), refl)
 pub same_entries : (reading : Result (List Entry) Refusal) (some others : List Entry) → reading ≡ Ok some → reading ≡ Ok others → some ≡ others
 same_entries reading some others a b = let both = sym a ∙ b in cc
 
-pub same_refusal : (reading : Result (List Entry) Refusal) (some other : Refusal) → reading ≡ Err some → reading ≡ Err other → some ≡ other
+pub same_refusal : {A : Type 0} (reading : Result (List A) Refusal) (some other : Refusal) → reading ≡ Err some → reading ≡ Err other → some ≡ other
 same_refusal reading some other a b = let both = sym a ∙ b in cc
 
 pub not_both : (reading : Result (List Entry) Refusal) (entries : List Entry) (refusal : Refusal) → reading ≡ Ok entries → reading ≡ Err refusal → ⊥

@@ -32,7 +32,8 @@ unfolding onto_front
 onto_front-first [] first others = refl
 onto_front-first (x ∷ front) first others = ap (onto_first x) (onto_front-first front first others)
 
-none_first : (x : ℕ) (front : List ℕ) → cut 10 (x ∷ front) ≡ None → ((x == 10) ≡ false) × (cut 10 front ≡ None)
+-- the first byte is no line end, and none is among the others
+pub none_first : (x : ℕ) (front : List ℕ) → cut 10 (x ∷ front) ≡ None → ((x == 10) ≡ false) × (cut 10 front ≡ None)
 none_first x front none =
     elim (x == 10) as (λ t. (x == 10) ≡ t → ◌≡◌ {A = Option (List ℕ × List ℕ)} (cond t (Some ([], front)) (option_map (λ (parts : List ℕ × List ℕ). (x ∷ parts.0, parts.1)) (cut 10 front))) None → ((x == 10) ≡ false) × (cut 10 front ≡ None)) [
       | true ↦ λ is e. absurd cc

@@ -15,6 +15,7 @@ ghost use Rattle.sst_cli.specs.Refusals.{refusal_text};
 ghost use Rattle.sst_cli.specs.Replies.{way_text};
 ghost use Rattle.sst_cli.specs.Run.{IsFault};
 ghost use Rattle.sst_cli.specs.TableBlocks.{blocks_of};
+ghost use Rattle.sst_cli.specs.Taken.{IsTakenTo};
 ghost use Rattle.sst_cli.specs.declared.bbt_fault.BbtFault as faults;
 ghost use Rattle.sst_cli.specs.declared.refusal.Refusal.{Refusal};
 
@@ -109,6 +110,8 @@ pub fn calls<F: Folder, I: Intake, O: Sink>(
     ensures ends { (result ≡ Status.Done) ⊎ ((result ≡ Status.Input) ⊎ ((result ≡ Status.File) ⊎ IsFault result)) }
     ensures input { result ≡ Status.Input → (text : List ℕ) → I.left input.old ≡ Some text
         → (refusal : Refusal) × (reading.read_calls text ≡ Err refusal) }
+    ensures near { result ≡ Status.Input → (text : List ℕ) (refusal : Refusal) → I.left input.old ≡ Some text
+        → reading.read_calls text ≡ Err refusal → IsTakenTo refusal.line text (I.left input.new) }
     ensures opened { result ≡ Status.Done → (file : List ℕ) → file_of (F.held files.old) name.now ≡ Some file
         → (blocks : List IndexedBlock) × Opens file blocks }
     ensures damaged { result ≡ Status.File → (file : List ℕ) → file_of (F.held files.old) name.now ≡ Some file

@@ -7,6 +7,7 @@ ghost use Rattle.sst_key.specs.declared.calls.Call.{Call};
 ghost use Rattle.sst_cli.specs.CallText.{IsInLimits, AreInLimits};
 ghost use Rattle.sst_cli.specs.Reading as reading;
 ghost use Rattle.sst_cli.specs.ReadingResult.{IsRefused};
+ghost use Rattle.sst_cli.specs.Taken.{IsTakenTo};
 ghost use Rattle.sst_device.specs.Faults.{Rose};
 ghost use Rattle.sst_cli.specs.declared.refusal.Refusal.{Refusal};
 
@@ -49,13 +50,16 @@ fn call_after(alloc: Global, line: &[u8], count: usize) -> Result<Call, InputSto
 
 /// Reads all lines of the input, which it reads to its end, as calls.
 ///
-/// The first line that isn't a call line, is too long or is one too many is refused.
+/// The first line that isn't a call line, is too long or is one too many is refused, and at most one piece past it is
+/// taken.
 pub fn read_calls<I: Intake>(alloc: Global, input: &mut I) -> Result<Calls, InputStop>
     ensures ok { IfOk result (λ calls. (text : List ℕ) → I.left input.old ≡ Some text
         → (reading.read_calls text ≡ Ok calls) × (I.left input.new ≡ Some [])) }
     ensures limits { IfOk result AreInLimits }
     ensures refused { (refusal : Refusal) → result ≡ Err (InputStop.Refused refusal)
         → (text : List ℕ) → I.left input.old ≡ Some text → reading.read_calls text ≡ Err refusal }
+    ensures near { (refusal : Refusal) → result ≡ Err (InputStop.Refused refusal)
+        → (text : List ℕ) → I.left input.old ≡ Some text → IsTakenTo refusal.line text (I.left input.new) }
     ensures failed { result ≡ Err (InputStop.Device DevStop.Failed) → Rose (I.faults input.old) (I.faults input.new) }
     ensures counts { I.faults input.old ≤ I.faults input.new }
     ensures hides_none { (result ≡ Err (InputStop.Device DevStop.Failed)) ⊎ (I.faults input.new ≡ I.faults input.old) }

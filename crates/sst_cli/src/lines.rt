@@ -6,6 +6,7 @@ ghost use Rattle.std.specs.Io.KnownBytes.{prepend_known};
 ghost use Rattle.sst_device.specs.Faults.{Rose};
 ghost use Rattle.sst_cli.specs.Texts.{cut};
 ghost use Rattle.sst_cli.specs.Lines.{IsRead, IsFound};
+ghost use Rattle.sst_cli.specs.Taken.{past_line};
 
 use crate::cuts::first_place;
 use sst_device::{DevStop, Failed, Intake};
@@ -51,6 +52,7 @@ fn refill<I: Intake>(bytes: &mut Vec<u8>, input: &mut I) -> Result<usize, DevSto
     requires { vec_len bytes.old ≤ 2 ^ 32 }
     ensures more { IfOk result (λ n. (piece : List ℕ) × (length piece ≡ n) × (bytes.new.items ≡ bytes.old.items ++ piece)
         × (I.left input.old ≡ prepend_known piece (I.left input.new))) }
+    ensures small { IfOk result (λ n. n ≤ 65536) }
     ensures end { result ≡ Ok 0 → IsRead (I.left input.new) }
     ensures failed { result ≡ Err DevStop.Failed → Rose (I.faults input.old) (I.faults input.new) }
     ensures counts { I.faults input.old ≤ I.faults input.new }
@@ -91,6 +93,7 @@ pub fn read_on<I: Intake>(bytes: &mut Vec<u8>, input: &mut I) -> Result<Found, D
     ensures told { IfOk result (λ _. prepend_known bytes.old.items (I.left input.old)
         ≡ prepend_known bytes.new.items (I.left input.new)) }
     ensures found { IfOk result (λ found. IsFound found bytes.new.items (I.left input.new)) }
+    ensures near { IfOk result (λ _. length (past_line bytes.new.items) ≤ 65536) }
     ensures failed { result ≡ Err DevStop.Failed → Rose (I.faults input.old) (I.faults input.new) }
     ensures counts { I.faults input.old ≤ I.faults input.new }
     ensures hides_none { (result ≡ Err DevStop.Failed) ⊎ (I.faults input.new ≡ I.faults input.old) }
@@ -143,6 +146,7 @@ impl LineReader {
     pub fn read_line<I: Intake>(&mut self, input: &mut I) -> Result<Found, DevStop>
         ensures told { IfOk result (λ _. prepend_known self.old (I.left input.old) ≡ prepend_known self.new (I.left input.new)) }
         ensures found { IfOk result (λ found. IsFound found self.new (I.left input.new)) }
+        ensures near { length self.old ≤ 65536 → IfOk result (λ _. length (past_line self.new) ≤ 65536) }
         ensures failed { result ≡ Err DevStop.Failed → Rose (I.faults input.old) (I.faults input.new) }
         ensures counts { I.faults input.old ≤ I.faults input.new }
         ensures hides_none { (result ≡ Err DevStop.Failed) ⊎ (I.faults input.new ≡ I.faults input.old) }

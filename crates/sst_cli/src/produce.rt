@@ -7,6 +7,7 @@ ghost use Rattle.sst_device.specs.Folder.{put_file};
 ghost use Rattle.sst_cli.specs.Reading.{read_input};
 ghost use Rattle.sst_cli.specs.Produced.{HasProduced};
 ghost use Rattle.sst_cli.specs.Run.{ChangesOnly};
+ghost use Rattle.sst_cli.specs.Taken.{IsTakenTo};
 ghost use Rattle.sst_cli.specs.declared.refusal.Refusal.{Refusal};
 
 use crate::bbt_writer::BbtWriter;
@@ -27,6 +28,8 @@ pub fn produce<F: Folder, I: Intake>(
         (I.left input.old) (I.left input.new)) }
     ensures refused { (refusal : Refusal) → result ≡ Err (InputStop.Refused refusal)
         → (text : List ℕ) → I.left input.old ≡ Some text → read_input text ≡ Err refusal }
+    ensures near { (refusal : Refusal) → result ≡ Err (InputStop.Refused refusal)
+        → (text : List ℕ) → I.left input.old ≡ Some text → IsTakenTo refusal.line text (I.left input.new) }
     ensures begun { (refusal : Refusal) → result ≡ Err (InputStop.Refused refusal)
         → (bytes : List ℕ) × (F.held files.new ≡ put_file (F.held files.old) line.entry.name.now bytes) }
     ensures others { ChangesOnly line.entry.name.now (F.held files.old) (F.held files.new) }

@@ -16,6 +16,7 @@ ghost use Rattle.sst_cli.specs.Printed.{Prints};
 ghost use Rattle.sst_cli.specs.Reading as reading;
 ghost use Rattle.sst_cli.specs.Refusals.{refusal_text};
 ghost use Rattle.sst_cli.specs.Run.{IsFault, ChangesOnly, Wrote, usage_text};
+ghost use Rattle.sst_cli.specs.Taken.{IsTakenTo};
 ghost use Rattle.sst_bbt_spec.specs.Way.{IndexedBlock};
 ghost use Rattle.sst_cli.specs.Words as line;
 ghost use Rattle.sst_cli.specs.Words.{WriteLine};
@@ -117,11 +118,14 @@ pub fn run<F: Folder, I: Intake, O: Sink>(
         → IsFault result ⊎ Wrote result write entries (F.held files.old) (F.held files.new) (I.left input.new)
         (O.written out.old) (O.written out.new) }
 
-    // An input of a `write` that is refused: its whole text is printed.
+    // An input of a `write` that is refused: its whole text is printed, and at most a piece past the refused line is taken.
     ensures refused { (name text : List ℕ) (refusal : Refusal) → line.out_name (map string_bytes words.now) ≡ Some name
         → I.left input.old ≡ Some text → reading.read_input text ≡ Err refusal
         → IsFault result ⊎ ((result ≡ Status.Input)
         × (O.written out.new ≡ append_known (O.written out.old) (refusal_text refusal))) }
+    ensures near { (name text : List ℕ) (refusal : Refusal) → line.out_name (map string_bytes words.now) ≡ Some name
+        → I.left input.old ≡ Some text → reading.read_input text ≡ Err refusal → result ≡ Status.Input
+        → IsTakenTo refusal.line text (I.left input.new) }
 
     // The calls clause of the headline: on each file that stands for a list, each list of calls is answered as the list
     // answers, from the text of the calls.
@@ -157,12 +161,16 @@ pub fn run<F: Folder, I: Intake, O: Sink>(
         → I.left input.old ≡ Some text → reading.read_calls text ≡ Ok calls
         → IsFault result ⊎ IsDamaged result file (I.left input.new) (O.written out.old) (O.written out.new) }
 
-    // An input of `calls` that is refused: its whole text is printed, whatever the file.
+    // An input of `calls` that is refused: the same, whatever the file.
     ensures calls_refused { (name text : List ℕ) (refusal : Refusal)
         → line.calls_name (map string_bytes words.now) ≡ Some name
         → I.left input.old ≡ Some text → reading.read_calls text ≡ Err refusal
         → IsFault result ⊎ ((result ≡ Status.Input)
         × (O.written out.new ≡ append_known (O.written out.old) (refusal_text refusal))) }
+    ensures calls_near { (name text : List ℕ) (refusal : Refusal)
+        → line.calls_name (map string_bytes words.now) ≡ Some name
+        → I.left input.old ≡ Some text → reading.read_calls text ≡ Err refusal → result ≡ Status.Input
+        → IsTakenTo refusal.line text (I.left input.new) }
 
     // A file of `calls` that isn't there, after the refusals of the input.
     ensures absent { (name : List ℕ) → line.calls_name (map string_bytes words.now) ≡ Some name

@@ -9,6 +9,7 @@ ghost use Rattle.sst_cli.specs.After.{After};
 ghost use Rattle.sst_cli.specs.Reading as reading;
 ghost use Rattle.sst_cli.specs.Reading.{refused_at};
 ghost use Rattle.sst_cli.specs.NextLine.{IsNext, HasNoLine};
+ghost use Rattle.sst_cli.specs.Taken.{past_line, IsTakenTo};
 ghost use Rattle.sst_cli.specs.ReadingResult.{HasAdded, IsRefused, HoldsInput};
 ghost use Rattle.sst_device.specs.Faults.{Rose};
 ghost use Rattle.sst_cli.specs.declared.refusal.Refusal.{Refusal};
@@ -67,6 +68,9 @@ pub fn next_line<I: Intake>(
     ensures next { IfOk result (λ next. IsNext next lines.new (I.left input.new)) }
     ensures refused { (refusal : Refusal) → result ≡ Err (InputStop.Refused refusal)
         → (text : List ℕ) → prepend_known lines.old (I.left input.old) ≡ Some text → HasNoLine number text refusal }
+    ensures close { length lines.old ≤ 65536 → IfOk result (λ _. length (past_line lines.new) ≤ 65536) }
+    ensures near { length lines.old ≤ 65536 → (refusal : Refusal) → result ≡ Err (InputStop.Refused refusal)
+        → (text : List ℕ) → prepend_known lines.old (I.left input.old) ≡ Some text → IsTakenTo 1 text (I.left input.new) }
     ensures failed { result ≡ Err (InputStop.Device DevStop.Failed) → Rose (I.faults input.old) (I.faults input.new) }
     ensures counts { I.faults input.old ≤ I.faults input.new }
     ensures hides_none { (result ≡ Err (InputStop.Device DevStop.Failed)) ⊎ (I.faults input.new ≡ I.faults input.old) }
@@ -137,7 +141,7 @@ pub fn add_line(
 
 /// Adds the entries of all lines of the input, which it reads to its end, to a writer of no entry.
 ///
-/// `file` takes what the writer appends; it is empty before.
+/// At most one piece past a line that is refused is taken. `file` takes what the writer appends; it is empty before.
 pub fn add_lines<I: Intake>(
     alloc: Global,
     writer: &mut BbtWriter,
@@ -149,6 +153,8 @@ pub fn add_lines<I: Intake>(
     ensures ok { OnOk result (HoldsInput writer.new file.new.items (I.left input.old) (I.left input.new)) }
     ensures refused { (refusal : Refusal) → result ≡ Err (InputStop.Refused refusal)
         → (text : List ℕ) → I.left input.old ≡ Some text → reading.read_input text ≡ Err refusal }
+    ensures near { (refusal : Refusal) → result ≡ Err (InputStop.Refused refusal)
+        → (text : List ℕ) → I.left input.old ≡ Some text → IsTakenTo refusal.line text (I.left input.new) }
     ensures failed { result ≡ Err (InputStop.Device DevStop.Failed) → Rose (I.faults input.old) (I.faults input.new) }
     ensures counts { I.faults input.old ≤ I.faults input.new }
     ensures hides_none { (result ≡ Err (InputStop.Device DevStop.Failed)) ⊎ (I.faults input.new ≡ I.faults input.old) }

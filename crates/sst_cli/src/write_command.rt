@@ -9,6 +9,7 @@ ghost use Rattle.sst_cli.specs.Refusals.{refusal_text};
 ghost use Rattle.sst_cli.specs.declared.refusal.Refusal.{Refusal};
 ghost use Rattle.sst_cli.specs.Run.{IsFault, IsWriteText, ChangesOnly, Wrote, done_text};
 ghost use Rattle.sst_cli.specs.Printed.{IsPrinted, Prints};
+ghost use Rattle.sst_cli.specs.Taken.{IsTakenTo};
 
 use crate::printing::{print, print_refusal, status_of};
 use crate::produce::produce;
@@ -38,6 +39,8 @@ pub fn write<F: Folder, I: Intake, O: Sink>(
     ensures ends { (result ≡ Status.Done) ⊎ ((result ≡ Status.Input) ⊎ IsFault result) }
     ensures input { result ≡ Status.Input → (text : List ℕ) → I.left input.old ≡ Some text
         → (refusal : Refusal) × (read_input text ≡ Err refusal) }
+    ensures near { result ≡ Status.Input → (text : List ℕ) (refusal : Refusal) → I.left input.old ≡ Some text
+        → read_input text ≡ Err refusal → IsTakenTo refusal.line text (I.left input.new) }
     ensures device { result ≡ Status.Device → Rose (F.faults files.old) (F.faults files.new)
         ⊎ (Rose (I.faults input.old) (I.faults input.new) ⊎ Rose (O.faults out.old) (O.faults out.new)) }
     ensures begun { result ≡ Status.Input

@@ -1,10 +1,12 @@
-use Rattle.std.proofs.Common.{[], ◌∷◌, Err, ap, arith, length-append}
+use Rattle.std.proofs.Common.{◌+◌, [], ◌∷◌, length, Err, ap, ◌∙◌, arith, length-append}
 use Rattle.std.specs.Io.KnownBytes.{prepend_known}
 use Rattle.std.proofs.lemmas.Result.{err_from_is_err_and}
 use Rattle.sst_cli.specs.declared.reading.InputStop.TheVariants as stop
+use Rattle.sst_cli.specs.declared.refusal.Refusal.{Refusal}
 use Rattle.sst_cli.specs.Reading.{read_call}
 use Rattle.sst_cli.proofs.ReadLines.{passed_answer}
 use Rattle.sst_cli.proofs.ReadingOn.{next_inside, next_taken, next_refused, next_none, next_not_read}
+use Rattle.sst_cli.proofs.Taken.{near_read, near_on, near_no_line, near_passed, past_next}
 use Rattle.sst_cli.proofs.CallLines.{read_call-limited}
 use Rattle.sst_cli.proofs.CallReading.{AreInLimits-push}
 use Rattle.sst_cli.proofs.call_reading.read_calls.Goals as goal
@@ -50,9 +52,31 @@ loop-calls-preserved g c =
     let longer = length-append calls (call ∷ []) in
     let few = c.in_ok-call-in-Some.ensures.few in
     let counted = c.len-count.ensures in
+    let past = past_next (length calls) c.in-Some.n (g.I.Intake.left c.args.input.now) (prepend_known c.loop-calls.lines (g.I.Intake.left c.loop-calls.input)) (g.I.Intake.left c.next_line.new.input) c.next_line.new.lines kept.past c.in_ok-next_line.ensures.told found in
+    let short = near_passed c.next_line.new.lines (g.I.Intake.left c.next_line.new.input) c.in-Some.n found (c.in_ok-next_line.ensures.close kept.short) in
     rw (c.in_ok-push-in-Some.ensures, c.pass.ensures) (record {
       said = more;
+      past = rw longer past;
+      short = short;
       limits = limits;
       few = omega arith;
       counts = grind (arith, kept.counts, c.next_line.ensures.hides_none);
     })
+
+pub returns-in_err-next_line-clause-near : goal.returns-in_err-next_line-clause-near
+returns-in_err-next_line-clause-near g c = λ refusal is text told.
+    let kept = c.loop-calls.invariant in
+    let p = err_from_is_err_and c.from_residual.result c.from_residual.ensures.1 in
+    let passed = passed_answer c.from_residual.result p.0 c.in_err-next_line.field-0.0 (stop.Refused refusal) p.1 p.2 is in
+    near_no_line (length c.loop-calls.calls) c.len-count.result (g.I.Intake.left c.args.input.now) (prepend_known c.loop-calls.lines (g.I.Intake.left c.loop-calls.input)) (g.I.Intake.left c.next_line.new.input) text refusal
+    kept.past (c.in_err-next_line.ensures.near kept.short refusal (ap Err passed)) c.len-count.ensures told (c.in_err-next_line.ensures.refused refusal (ap Err passed))
+
+pub returns-in_err-call-in-Some-clause-near : goal.returns-in_err-call-in-Some-clause-near
+returns-in_err-call-in-Some-clause-near g c = λ refusal is text told.
+    let kept = c.loop-calls.invariant in
+    let p = err_from_is_err_and c.from_residual-in_err-call-in-Some.result c.from_residual-in_err-call-in-Some.ensures.1 in
+    let passed = passed_answer c.from_residual-in_err-call-in-Some.result p.0 c.in_err-call-in-Some.field-0.0 (stop.Refused refusal) p.1 p.2 is in
+    let refused = c.in_err-call-in-Some.ensures.refused refusal (ap Err passed) c.loop-calls.calls c.len-count.ensures in
+    let near = near_read _ (g.I.Intake.left c.next_line.new.input) c.next_line.new.lines c.in_ok-next_line.ensures.told (c.in_ok-next_line.ensures.close kept.short) in
+    near_on (length c.loop-calls.calls) refusal.line (g.I.Intake.left c.args.input.now) (prepend_known c.loop-calls.lines (g.I.Intake.left c.loop-calls.input)) (g.I.Intake.left c.next_line.new.input) text
+    kept.past near (ap (λ (r : Refusal). r.line) refused.said ∙ ap (λ n. n + 1) c.len-count.ensures) told

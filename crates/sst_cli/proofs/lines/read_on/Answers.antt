@@ -1,5 +1,6 @@
 use Rattle.std.proofs.Common.{◌≡◌, length, ◌∙◌, arith}
 use Rattle.sst_cli.proofs.ReadOn.{told_on, none_on, found_on, piece_is}
+use Rattle.sst_cli.proofs.Taken.{near_none, near_piece}
 use Rattle.sst_cli.proofs.lines.read_on.Goals as goal
 
 pub found_line-requires : goal.found_line-requires
@@ -26,3 +27,16 @@ loop-bytes-preserved g c =
       told = told_on (g.I.Intake.left c.args.input.now) (g.I.Intake.left c.loop-bytes.input) (g.I.Intake.left c.refill.new.input) c.args.bytes.now.items old piece c.refill.new.bytes.items c.loop-bytes.invariant.told more.3 more.2;
       counts = grind (arith, c.refill.ensures.hides_none, c.loop-bytes.invariant.counts);
     }
+
+pub returns-then-taken-eq0-clause-near : goal.returns-then-taken-eq0-clause-near
+returns-then-taken-eq0-clause-near g c =
+    let more = c.in_ok-taken.ensures.more in
+    near_piece c.loop-bytes.bytes.items more.0 c.refill.new.bytes.items c.loop-bytes.invariant.none more.2 (omega (arith, more.1, c.in_ok-taken.ensures.small))
+
+pub returns-in-Some-clause-near : goal.returns-in-Some-clause-near
+returns-in-Some-clause-near g c =
+    let more = c.in_ok-taken.ensures.more in
+    near_piece c.loop-bytes.bytes.items more.0 c.refill.new.bytes.items c.loop-bytes.invariant.none more.2 (omega (arith, more.1, c.in_ok-taken.ensures.small))
+
+pub returns-clause-near : goal.returns-clause-near
+returns-clause-near g c = near_none c.loop-bytes.bytes.items c.loop-bytes.invariant.none

@@ -10,7 +10,7 @@ returns-in-Ok-clause-more g c =
     let old = c.args.bytes.now.items in
     let k : c.len-before.result ≡ length old = omega arith in
     let front = c.split_at_mut-room.ensures.front ∙ ap (take c.len-before.result) c.as_mut_slice.ensures.value in
-    let same = front ∙ before_room old _ c.resize.new.self.items c.len-before.result 65536 k items in
+    let same = front ∙ before_room old _ c.resize.new.self.items c.len-before.result _ k items in
     let within : c.in-Ok.n ≤ length c.take.new.buf = omega (arith, c.in-Ok.ensures.within) in
     let taken = length-take c.in-Ok.n c.take.new.buf in (
       take c.in-Ok.n c.take.new.buf,

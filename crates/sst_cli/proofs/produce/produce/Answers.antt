@@ -19,6 +19,12 @@ returns-in_err-add_lines-clause-refused g c = λ refusal is text told.
     let passed = passed_answer c.from_residual-in_err-add_lines.result p.0 c.in_err-add_lines.field-0.0 (stop.Refused refusal) p.1 p.2 is in
     c.in_err-add_lines.ensures.refused refusal (ap Err passed) text told
 
+pub returns-in_err-add_lines-clause-near : goal.returns-in_err-add_lines-clause-near
+returns-in_err-add_lines-clause-near g c = λ refusal is text told.
+    let p = err_from_is_err_and c.from_residual-in_err-add_lines.result c.from_residual-in_err-add_lines.ensures.1 in
+    let passed = passed_answer c.from_residual-in_err-add_lines.result p.0 c.in_err-add_lines.field-0.0 (stop.Refused refusal) p.1 p.2 is in
+    c.in_err-add_lines.ensures.near refusal (ap Err passed) text told
+
 pub returns-in_err-add-clause-others : goal.returns-in_err-add-clause-others
 returns-in_err-add-clause-others g c =
     let some = c.in_err-add.ensures.err in

@@ -95,6 +95,22 @@ returns-in-Some-calls_name-clause-done_only g c = λ is name file words held.
     let opened = rw same at c.calls.ensures.opened in
     opened is file held
 
+pub returns-in-Some-clause-near : goal.returns-in-Some-clause-near
+returns-in-Some-clause-near g c = λ name text refusal words left reads is. c.write.ensures.near is text refusal left reads
+
+pub returns-in-Some-clause-calls_near : goal.returns-in-Some-clause-calls_near
+returns-in-Some-clause-calls_near g c = λ name text refusal words left reads is.
+    let given = map string_bytes c.args.words.now in
+    only_out given c.in-Some.line.name.now name _ (line_out _ given c.in-Some.ensures) words
+
+pub returns-in-Some-calls_name-clause-near : goal.returns-in-Some-calls_name-clause-near
+returns-in-Some-calls_name-clause-near g c = λ name text refusal words left reads is.
+    let both = no_out (map string_bytes c.args.words.now) c.in-None.ensures ∙ words in
+    absurd (cc both)
+
+pub returns-in-Some-calls_name-clause-calls_near : goal.returns-in-Some-calls_name-clause-calls_near
+returns-in-Some-calls_name-clause-calls_near g c = λ name text refusal words left reads is. c.calls.ensures.near is text refusal left reads
+
 pub returns-in-Some-clause-begun : goal.returns-in-Some-clause-begun
 returns-in-Some-clause-begun g c = λ name words is.
     let same = named c.in-Some.line.name.now name _ (line_out _ (map string_bytes c.args.words.now) c.in-Some.ensures) words in

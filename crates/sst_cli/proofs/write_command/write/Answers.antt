@@ -1,5 +1,7 @@
-use Rattle.std.proofs.Common.{length, Ok, Err, ap, inr}
+use Rattle.std.proofs.Common.{length, Ok, Err, ap, inr, subst}
+use Rattle.sst_cli.specs.declared.refusal.Refusal.{Refusal}
 use Rattle.sst_cli.specs.Run.{text_for, done_text}
+use Rattle.sst_cli.specs.Taken.{IsTakenTo}
 use Rattle.sst_cli.specs.Refusals.{refusal_text}
 use Rattle.sst_cli.specs.Reading.{read_input}
 use Rattle.sst_cli.proofs.PrintedTexts.{some_printed, none_printed, text_that_says, some_text, same_entries, same_refusal, not_both, done_printed, device_printed, refusal_printed}
@@ -57,3 +59,10 @@ returns-in-Err-Refused-clause-refused g c = λ text refusal told reads.
 pub returns-in-Err-Refused-clause-begun : goal.returns-in-Err-Refused-clause-begun
 returns-in-Err-Refused-clause-begun g c = λ is.
     c.produce.ensures.begun c.in-Err-Refused.refusal (rw c.in-Err-Refused.field-0-is at c.in-Err-Refused.is)
+
+pub returns-in-Err-Refused-clause-near : goal.returns-in-Err-Refused-clause-near
+returns-in-Err-Refused-clause-near g c = λ is text refusal told reads.
+    let some = c.in-Err-Refused.refusal in
+    let answered = rw c.in-Err-Refused.field-0-is at c.in-Err-Refused.is in
+    let same = same_refusal (read_input text) some refusal (c.produce.ensures.refused some answered text told) reads in
+    subst (λ (r : Refusal). IsTakenTo r.line text (g.I.Intake.left c.produce.new.input)) same (c.produce.ensures.near some answered text told)

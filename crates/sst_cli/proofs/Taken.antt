@@ -1,0 +1,130 @@
+-- How much of a text was taken, line by line.
+use Rattle.std.proofs.Common.{◌≡◌, inl, inr, ℕ, zero, suc, ◌+◌, ◌≤◌, ◌==◌, true, false, cond, List, [], ◌∷◌, ◌++◌, length, take, drop, Option, Some, None, refl, sym, ap, ◌∙◌, length-append, arith}
+use Rattle.std.specs.Option.{option_map}
+use Rattle.std.specs.Io.KnownBytes.{prepend_known}
+use Rattle.std.proofs.lemmas.List.{append-nil}
+use Rattle.sst_cli.specs.declared.refusal.Refusal.{Refusal}
+use Rattle.sst_cli.specs.Texts.{cut}
+use Rattle.sst_cli.specs.NextLine.{IsNext, HasNoLine}
+use Rattle.sst_cli.specs.Taken.{past_line, past_lines, IsTakenTo}
+use Rattle.sst_cli.proofs.Cut.{cut-parts, cut-append_some}
+use Rattle.sst_cli.proofs.ReadFrom.{none_first}
+
+-- ---- past one line
+
+-- some bytes without a line end don't count
+past_line-after : (front text : List ℕ) → cut 10 front ≡ None → past_line (front ++ text) ≡ past_line text
+past_line-after [] text none = refl
+past_line-after (x ∷ front) text none =
+    let parts = none_first x front none in
+    rw parts.0 (past_line-after front text parts.1)
+
+past_line-none : (text : List ℕ) → cut 10 text ≡ None → past_line text ≡ []
+past_line-none text none = ap past_line (sym (append-nil text)) ∙ past_line-after text [] none
+
+past_line-found : (text line after : List ℕ) → cut 10 text ≡ Some (line, after) → past_line text ≡ after
+past_line-found text line after found =
+    let parts = cut-parts 10 text line after found in
+    ap past_line parts.0 ∙ past_line-after line (10 ∷ after) parts.1
+
+past_line-shorter : (text : List ℕ) → length (past_line text) ≤ length text
+past_line-shorter [] = omega arith
+past_line-shorter (x ∷ text) =
+    elim (x == 10) as (λ t. length (cond t text (past_line text)) ≤ suc (length text)) [
+      | true ↦ omega arith
+      | false ↦ omega (arith, past_line-shorter text)
+    ]
+
+past_line-append : (front rest : List ℕ) → length (past_line (front ++ rest)) ≤ length (past_line front) + length rest
+past_line-append [] rest = omega (arith, past_line-shorter rest)
+past_line-append (x ∷ front) rest =
+    elim (x == 10) as (λ t. length (cond t (front ++ rest) (past_line (front ++ rest))) ≤ length (cond t front (past_line front)) + length rest) [
+      | true ↦ omega (arith, length-append front rest)
+      | false ↦ past_line-append front rest
+    ]
+
+-- ---- what was read and not passed
+
+-- no line ends in it
+pub near_none : (bytes : List ℕ) → cut 10 bytes ≡ None → length (past_line bytes) ≤ 65536
+near_none bytes none = rw (past_line-none bytes none) (omega arith)
+
+-- no line ends in it but in the last piece
+pub near_piece : (bytes piece all : List ℕ) → cut 10 bytes ≡ None → all ≡ bytes ++ piece → length piece ≤ 65536 → length (past_line all) ≤ 65536
+near_piece bytes piece all none is small =
+    let past : past_line all ≡ past_line piece = ap past_line is ∙ past_line-after bytes piece none in
+    rw past (omega (arith, past_line-shorter piece))
+
+-- no more than a piece
+pub near_short : (bytes : List ℕ) → length bytes ≤ 65536 → length (past_line bytes) ≤ 65536
+near_short bytes short = omega (arith, past_line-shorter bytes)
+
+-- the line that was found is passed
+pub near_passed : (unread : List ℕ) (left : Option (List ℕ)) (n : ℕ) → IsNext (Some n) unread left → length (past_line unread) ≤ 65536
+    → length (drop 1 (drop n unread)) ≤ 65536
+near_passed unread left n next near =
+    let past = past_line-found unread (take n unread) (drop 1 (drop n unread)) next.1 in
+    rw past at near
+
+-- ---- past some lines
+
+-- what is left is what follows so many lines
+abbrev pub IsPast : ℕ → Option (List ℕ) → Option (List ℕ) → Type 0
+IsPast n start left = option_map (past_lines n) start ≡ left
+
+past_lines-step : (n : ℕ) (text : List ℕ) → past_lines (n + 1) text ≡ past_line (past_lines n text)
+past_lines-step zero text = refl
+past_lines-step (suc n) text = let more : suc n + 1 ≡ suc (n + 1) = omega arith in rw more (past_lines-step n (past_line text))
+
+-- a line more was passed
+past_known : (n : ℕ) (text unread rest line after : List ℕ) → past_lines n text ≡ unread ++ rest → cut 10 unread ≡ Some (line, after)
+    → past_lines (n + 1) text ≡ after ++ rest
+past_known n text unread rest line after is found =
+    past_lines-step n text ∙ ap past_line is ∙ past_line-found (unread ++ rest) line (after ++ rest) (cut-append_some 10 unread rest line after found)
+
+pub past_next : (n k : ℕ) (start before left : Option (List ℕ)) (unread : List ℕ) → IsPast n start before → before ≡ prepend_known unread left → IsNext (Some k) unread left
+    → IsPast (n + 1) start (prepend_known (drop 1 (drop k unread)) left)
+past_next n k None before None unread past told next = refl
+past_next n k None before (Some rest) unread past told next = let both = past ∙ told in absurd cc
+past_next n k (Some text) before None unread past told next = let both = past ∙ told in absurd cc
+past_next n k (Some text) before (Some rest) unread past told next =
+    let both = past ∙ told in
+    let is : past_lines n text ≡ unread ++ rest = cc in
+    ap Some (past_known n text unread rest (take k unread) (drop 1 (drop k unread)) is next.1)
+
+-- what was to come, where it is told what was to come at the start
+past_told : (n : ℕ) (start before : Option (List ℕ)) (text : List ℕ) → IsPast n start before → start ≡ Some text → before ≡ Some (past_lines n text)
+past_told n start before text past told = sym past ∙ ap (option_map (past_lines n)) told
+
+-- ---- where the reading stopped
+
+-- of what was to come at most a piece past its first line was taken
+abbrev pub IsNear : Option (List ℕ) → Option (List ℕ) → Type 0
+IsNear before left = (text : List ℕ) → before ≡ Some text → IsTakenTo 1 text left
+
+pub near_read : (before left : Option (List ℕ)) (unread : List ℕ) → before ≡ prepend_known unread left → length (past_line unread) ≤ 65536 → IsNear before left
+near_read before None unread told near = λ text is. let both = sym told ∙ is in absurd cc
+near_read before (Some rest) unread told near = λ text is.
+    let both = sym told ∙ is in
+    let same : unread ++ rest ≡ text = cc in
+    let most = past_line-append unread rest in
+    record { rest = rest; told = refl; near = rw (← same) (omega arith) }
+
+-- the same from the start on
+pub near_on : (n lines : ℕ) (start before left : Option (List ℕ)) (text : List ℕ) → IsPast n start before → IsNear before left → lines ≡ n + 1 → start ≡ Some text
+    → IsTakenTo lines text left
+near_on n lines start before left text past near counted told =
+    let taken = near (past_lines n text) (past_told n start before text past told) in
+    let most : length (past_line (past_lines n text)) ≤ 65536 + length taken.rest = taken.near in
+    record { rest = taken.rest; told = taken.told; near = rw (counted, past_lines-step n text) most }
+
+-- no line can be read: the number of the line that is refused
+no_line-number : (number : ℕ) (text : List ℕ) (refusal : Refusal) → HasNoLine number text refusal → refusal.line ≡ number
+no_line-number number text refusal (inl long) = ap (λ (r : Refusal). r.line) long.1
+no_line-number number text refusal (inr unended) = ap (λ (r : Refusal). r.line) unended.1
+
+pub near_no_line : (n number : ℕ) (start before left : Option (List ℕ)) (text : List ℕ) (refusal : Refusal) → IsPast n start before → IsNear before left
+    → number ≡ n → start ≡ Some text → ((rest : List ℕ) → before ≡ Some rest → HasNoLine (number + 1) rest refusal) → IsTakenTo refusal.line text left
+near_no_line n number start before left text refusal past near counted told none =
+    let line = no_line-number (number + 1) (past_lines n text) refusal (none (past_lines n text) (past_told n start before text past told)) in
+    near_on n refusal.line start before left text past near (line ∙ ap (λ k. k + 1) counted) told
