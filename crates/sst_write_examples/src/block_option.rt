@@ -125,9 +125,9 @@ fn a_file_with_the_name_of_an_option(rt: HostRuntime) -> Result<(), Fail> {
     Ok(())
 }
 
-/// The length of the file of an entry with a value of so many bytes and one more entry, by these words.
-fn length_with(alloc: Global, bytes: usize, words: &[&str]) -> Result<Option<usize>, Fail> {
-    let value = vec![in alloc; b'7'; 2 * bytes]?;
+/// The length of the file of an entry with a value of so many hex digits and one more entry, by these words.
+fn length_with(alloc: Global, digits: usize, words: &[&str]) -> Result<Option<usize>, Fail> {
+    let value = vec![in alloc; b'7'; digits]?;
     let mut lines = Vec::new(alloc);
     lines.extend_from_slice(b"61 1 P ")?;
     lines.extend_from_slice(&value)?;
@@ -143,20 +143,12 @@ fn length_with(alloc: Global, bytes: usize, words: &[&str]) -> Result<Option<usi
 // an independent program.
 #[test]
 fn the_size_without_an_option(rt: HostRuntime) -> Result<(), Fail> {
-    for (bytes, option, length) in [
-        (4074, "block=4095", 4525),
-        (4074, "", 4493),
-        (4075, "block=4097", 4494),
-        (4075, "", 4526),
-    ] {
-        let with = ["write", "block", NAME, option];
-        let words = if option.is_empty() {
-            &with[..3]
-        } else {
-            &with[..]
-        };
-        let found = length_with(rt.alloc(), bytes, words)?;
-        assert_eq!(rt; found, Some(length), "{bytes} {option}");
-    }
+    let plain = ["write", "block", NAME];
+    let less = ["write", "block", NAME, "block=4095"];
+    let more = ["write", "block", NAME, "block=4097"];
+    assert_eq!(rt; length_with(rt.alloc(), 8148, &less)?, Some(4525));
+    assert_eq!(rt; length_with(rt.alloc(), 8148, &plain)?, Some(4493));
+    assert_eq!(rt; length_with(rt.alloc(), 8150, &more)?, Some(4494));
+    assert_eq!(rt; length_with(rt.alloc(), 8150, &plain)?, Some(4526));
     Ok(())
 }
