@@ -50,4 +50,6 @@ mod search;
 
 pub use bbt_fault::BbtFault;
 pub use bbt_reader::{BbtReader, BlockEnd, Cursor, open};
-pub use opening_laws::{a_fault_is_shown, a_file_opens_to_its_blocks, a_file_that_opens_shows_no_fault};
+pub use opening_laws::{
+    a_fault_is_shown, a_file_opens_to_its_blocks, a_file_that_opens_shows_no_fault,
+};

@@ -11,10 +11,10 @@ ghost use Rattle.sst_key.specs.Entry.{IsOrdered};
 ghost use Rattle.sst_key.specs.ListMachine as machine;
 ghost use Rattle.sst_bbt_read.specs.declared.bbt_reader.BlockEnd as ends;
 
-use sst_num::fixed64;
-use std::cmp::Ordering;
 use crate::bbt_reader::BlockEnd;
 use sst_key::{Entry, target_cmp};
+use sst_num::fixed64;
+use std::cmp::Ordering;
 
 /// How many bytes of a stored key are its tag.
 const TAG_LENGTH: usize = 8;

@@ -1,11 +1,11 @@
 //! Tests of opening a file, on the file of one entry and on what is left of it where bytes are changed.
 //!
 //! The data block of 21 bytes stands at 0; its type byte is at 21, and its checksum at 22. The file has 402 bytes.
+use crate::command::WriteLine;
+use crate::commands::produce::produce;
+use crate::output::damage::fault_line;
 use sst_bbt_read::{BbtFault, BbtReader, open};
 use sst_bbt_write::BbtOptions;
-use crate::output::damage::fault_line;
-use crate::commands::produce::produce;
-use crate::command::WriteLine;
 use sst_device::{FrameFault, MemFolder, MemIntake};
 use sst_key::Kind;
 use sst_meta::MetaFault;

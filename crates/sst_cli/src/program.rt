@@ -24,11 +24,11 @@ ghost use Rattle.sst_bbt_write.specs.Written.{Fits};
 ghost use Rattle.sst_bbt_read.specs.declared.bbt_fault.BbtFault.{BbtFault};
 ghost use Rattle.sst_cli.specs.declared.input.refusal.Refusal.{Refusal};
 
-use crate::commands::calls::calls;
-use crate::status::Status;
-use crate::output::printing::print;
 use crate::command::{calls_name, write_line};
+use crate::commands::calls::calls;
 use crate::commands::write::write;
+use crate::output::printing::print;
+use crate::status::Status;
 use sst_device::{Folder, Intake, Sink};
 use std::alloc::Global;
 

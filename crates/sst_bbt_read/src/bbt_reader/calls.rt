@@ -9,8 +9,7 @@ ghost use Rattle.sst_bbt_read.specs.declared.bbt_reader.BlockEnd.{BlockEnd};
 ghost use Rattle.sst_bbt_spec.specs.Way.{joined, way_seek, way_get, way_seek_for_prev};
 
 use crate::bbt_reader::BbtReader;
-use crate::search::{blocks_before_seek, blocks_before_seek_for_prev};
-use crate::search::{below, up_to};
+use crate::search::{below, blocks_before_seek, blocks_before_seek_for_prev, up_to};
 use sst_key::{Entry, EntryView, Reply};
 use std::marker::Model;
 

@@ -19,14 +19,13 @@ ghost use Rattle.sst_text.specs.Taken.{IsTakenTo};
 ghost use Rattle.sst_bbt_read.specs.declared.bbt_fault.BbtFault as faults;
 ghost use Rattle.sst_cli.specs.declared.input.refusal.Refusal.{Refusal};
 
-use crate::output::answers::print_answers;
-use sst_bbt_read::BbtFault;
-use sst_bbt_read::{BbtReader, open};
 use crate::input::calls::read_calls;
+use crate::input::entries::InputStop;
+use crate::output::answers::print_answers;
 use crate::output::damage::fault_line;
 use crate::output::printing::{print, print_refusal, status_of};
 use crate::status::Status;
-use crate::input::entries::InputStop;
+use sst_bbt_read::{BbtFault, BbtReader, open};
 use sst_device::{Folder, Intake, Sink};
 use sst_key::Call;
 use sst_num::{Memory, Stop};

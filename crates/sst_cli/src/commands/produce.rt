@@ -10,9 +10,9 @@ ghost use Rattle.sst_cli.specs.Run.{ChangesOnly};
 ghost use Rattle.sst_text.specs.Taken.{IsTakenTo};
 ghost use Rattle.sst_cli.specs.declared.input.refusal.Refusal.{Refusal};
 
-use sst_bbt_write::BbtWriter;
-use crate::input::entries::{InputStop, add_lines};
 use crate::command::WriteLine;
+use crate::input::entries::{InputStop, add_lines};
+use sst_bbt_write::BbtWriter;
 use sst_device::{DevStop, Folder, Intake};
 use std::alloc::Global;
 

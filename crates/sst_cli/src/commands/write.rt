@@ -11,11 +11,11 @@ ghost use Rattle.sst_cli.specs.Run.{IsFault, IsWriteText, ChangesOnly, Wrote, do
 ghost use Rattle.sst_cli.specs.Printed.{IsPrinted, Prints};
 ghost use Rattle.sst_text.specs.Taken.{IsTakenTo};
 
-use crate::output::printing::{print, print_refusal, status_of};
-use crate::commands::produce::produce;
-use crate::status::Status;
-use crate::input::entries::InputStop;
 use crate::command::WriteLine;
+use crate::commands::produce::produce;
+use crate::input::entries::InputStop;
+use crate::output::printing::{print, print_refusal, status_of};
+use crate::status::Status;
 use sst_device::{Folder, Intake, Sink};
 use std::alloc::Global;
 

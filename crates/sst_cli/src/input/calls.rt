@@ -11,13 +11,12 @@ ghost use Rattle.sst_text.specs.Taken.{IsTakenTo};
 ghost use Rattle.sst_device.specs.Faults.{Rose};
 ghost use Rattle.sst_cli.specs.declared.input.refusal.Refusal.{Refusal};
 
-use sst_text::call_of_line;
 use crate::input::call_list::Calls;
-use sst_text::LineReader;
 use crate::input::entries::{InputStop, next_line, refused};
 use crate::input::refusal::Reason;
 use sst_device::{DevStop, Intake};
 use sst_key::Call;
+use sst_text::{LineReader, call_of_line};
 use std::alloc::Global;
 
 /// The most calls that an input has.

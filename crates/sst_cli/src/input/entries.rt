@@ -16,13 +16,12 @@ ghost use Rattle.sst_cli.specs.declared.input.refusal.Refusal.{Refusal};
 ghost use Rattle.sst_cli.specs.declared.input.entries.InputStop.TheVariants as stop;
 ghost use Rattle.sst_device.specs.declared.folder.DevStop.TheVariants as device;
 
-use sst_bbt_write::BbtWriter;
-use sst_text::entry_of_line;
-use sst_text::{Found, LineReader};
 use crate::input::refusal::{Reason, Refusal};
+use sst_bbt_write::BbtWriter;
 use sst_device::{DevStop, Intake};
 use sst_key::{Entry, EntryView};
 use sst_num::{Memory, Refused};
+use sst_text::{Found, LineReader, entry_of_line};
 use std::alloc::Global;
 
 /// Why the input of a command gave nothing.

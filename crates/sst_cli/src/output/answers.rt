@@ -9,10 +9,10 @@ ghost use Rattle.sst_bbt_read.specs.TableBlocks.{blocks_of};
 ghost use Rattle.sst_bbt_spec.specs.Way.{joined, way_answer, way_get};
 
 use sst_bbt_read::{BbtReader, Cursor};
-use sst_text::put_reply_line;
 use sst_device::{DevStop, Sink, put_all};
 use sst_key::{Call, EntryView, Reply, Target};
 use sst_num::Memory;
+use sst_text::put_reply_line;
 use std::alloc::Global;
 
 /// How many bytes of text wait before they are put.

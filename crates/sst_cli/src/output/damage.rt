@@ -9,7 +9,7 @@ use std::alloc::Global;
 
 /// The line that is printed for a damaged file.
 pub fn fault_line(alloc: Global, fault: BbtFault) -> Result<String, Memory>
-    ensures { IfOk result (λ text. string_bytes text ≡ texts.fault_text fault) }
+    ensures { IfOk result (λ text. string_bytes text ≡ fault_text fault) }
 {
     let text = format!(in alloc; "damage {fault}\n")?;
     Ok(text)

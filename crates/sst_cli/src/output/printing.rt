@@ -4,8 +4,8 @@ ghost use Rattle.sst_cli.specs.Refusals.{refusal_text};
 ghost use Rattle.sst_cli.specs.Run.{IsFault};
 ghost use Rattle.sst_cli.specs.Printed.{IsPrinted};
 
-use crate::status::Status;
 use crate::input::refusal::{Refusal, refusal_line};
+use crate::status::Status;
 use sst_device::{DevStop, Sink, put_all};
 use sst_num::Memory;
 use std::alloc::Global;
