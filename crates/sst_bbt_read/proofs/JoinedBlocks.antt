@@ -5,7 +5,7 @@ use Rattle.std.proofs.lemmas.List.Elements.{All-nil, All-head, All-tail, All-app
 use Rattle.sst_key.specs.declared.entries.Entry.{Entry}
 use Rattle.sst_bbt_spec.specs.Rows.{HasSeq}
 use Rattle.sst_bbt_spec.specs.Way.{IndexedBlock, joined}
-use Rattle.sst_bbt_read.specs.TableBlocks.{Table, IsTable, AreEnds, AreEntries, blocks_from, blocks_of}
+use Rattle.sst_bbt_read.specs.TableBlocks.{OpenTable, IsOpenTable, AreEnds, AreEntries, blocks_from, blocks_of}
 use Rattle.sst_bbt_read.specs.declared.bbt_reader.BlockEnd.{BlockEnd}
 
 -- what lies behind a block is what lies behind its end
@@ -24,7 +24,7 @@ joined-from start (b ∷ rest) entries (low, within, more) =
     ∙ take-append-drop (b.end - start) (drop start entries)
 
 -- the blocks of a table hold its entries
-pub joined-table : (table : Table) → IsTable table → joined (blocks_of table) ≡ table.entries
+pub joined-table : (table : OpenTable) → IsOpenTable table → joined (blocks_of table) ≡ table.entries
 joined-table table is = joined-from 0 table.ends table.entries is.ends
 
 -- the sequence numbers of all blocks are in range where those of each are
@@ -36,5 +36,5 @@ joined-seqs (block ∷ rest) all =
     All-append HasSeq block.entries (joined rest) here.seqs more
 
 -- and so are those of a table
-pub table-seqs : (table : Table) → IsTable table → All HasSeq (joined (blocks_of table))
+pub table-seqs : (table : OpenTable) → IsOpenTable table → All HasSeq (joined (blocks_of table))
 table-seqs table is = joined-seqs (blocks_of table) is.blocks

@@ -26,7 +26,7 @@ use Rattle.sst_meta.specs.declared.loading.Loaded.{Loaded}
 use Rattle.sst_meta.specs.declared.meta_fault.MetaFault.{MetaFault}
 use Rattle.sst_meta.specs.declared.meta_fault.MetaFault.TheVariants as meta
 use Rattle.sst_bbt_spec.specs.Rows.{row_of, rows_of}
-use Rattle.sst_bbt_read.specs.TableBlocks.{Table, AreEntries}
+use Rattle.sst_bbt_read.specs.TableBlocks.{OpenTable, AreEntries}
 use Rattle.sst_bbt_read.specs.Opening.{with_rows, data_read, handle_read, index_read, blocks_read}
 use Rattle.sst_bbt_read.specs.Reader.{Opened, BlockAdded}
 use Rattle.sst_bbt_read.specs.declared.bbt_fault.BbtFault.{BbtFault}
@@ -106,7 +106,7 @@ loaded_length file loaded is =
     (λ props third e. same_length file footer names props loaded e)))
 
 -- a file that says of itself what it must
-pub after_load : (result : Result Table (Stop BbtFault)) (loaded : Loaded) (file : List ℕ) (end : ℕ) → load_read file ≡ Ok loaded → end ≡ loaded.len - 53
+pub after_load : (result : Result OpenTable (Stop BbtFault)) (loaded : Loaded) (file : List ℕ) (end : ℕ) → load_read file ≡ Ok loaded → end ≡ loaded.len - 53
     → Opened result (index_read file end loaded.footer.index) → Opened result (blocks_read file)
 unfolding blocks_read
 after_load result loaded file end is at opens =

@@ -17,7 +17,7 @@ use Rattle.sst_device.specs.Folder.{Files, file_of, misses}
 use Rattle.sst_device.specs.Faults.{Rose}
 use Rattle.sst_bbt_spec.specs.Way.{IndexedBlock}
 use Rattle.sst_bbt_read.specs.Opening.{runs_read}
-use Rattle.sst_bbt_read.specs.TableBlocks.{Table, IsTable, AreEntries, AreEnds, row_blocks_of, blocks_from}
+use Rattle.sst_bbt_read.specs.TableBlocks.{OpenTable, IsOpenTable, AreEntries, AreEnds, row_blocks_of, blocks_from}
 use Rattle.sst_bbt_read.specs.declared.bbt_fault.BbtFault.{BbtFault}
 use Rattle.sst_bbt_read.specs.declared.bbt_reader.BlockEnd.{BlockEnd}
 use Rattle.sst_bbt_read.proofs.TableGrown.{separators_of, keys_of, separators-ordered, separators-long}
@@ -60,7 +60,7 @@ value-handle index rows n value short reads (row, at, same) =
 -- after the last row the table is complete
 pub table_walked : (index : List ℕ) (count : ℕ) (rows : List Row) (n : ℕ) (ends : List BlockEnd) (entries : List Entry) → length index ≤ 2 ^ 29
     → RowsIn index count rows → count ≤ n → separators_of ends ≡ keys_of (take n rows) → AreEnds 0 ends (length entries)
-    → All (λ (b : IndexedBlock). AreEntries b.entries) (blocks_from 0 ends entries) → IsTable (record { ends = ends; entries = entries })
+    → All (λ (b : IndexedBlock). AreEntries b.entries) (blocks_from 0 ends entries) → IsOpenTable (record { ends = ends; entries = entries })
 table_walked index count rows n ends entries short is all keys are blocks =
     let block = read-sound (Index false false) index rows tt short is.0 in
     let whole : separators_of ends ≡ keys_of rows = keys ∙ ap keys_of (take_all n rows (omega (arith, is.1, all))) in
@@ -78,8 +78,8 @@ failed_later held now name end first then_ last same counts (inl missed) = inl (
 failed_later held now name end first then_ last same counts (inr rose) = inr (omega (arith, counts, rose))
 
 -- a failure that was passed on
-pub passed_device : (result : Result Table (Stop BbtFault)) (passed stop : Stop BbtFault) → result ≡ Err passed → passed ≡ stop → result ≡ Err Device
+pub passed_device : (result : Result OpenTable (Stop BbtFault)) (passed stop : Stop BbtFault) → result ≡ Err passed → passed ≡ stop → result ≡ Err Device
     → ◌≡◌ {A = Result ℕ (Stop BbtFault)} (Err stop) (Err Device)
 passed_device result passed stop is same failed =
-    let both : ◌≡◌ {A = Result Table (Stop BbtFault)} (Err stop) (Err Device) = sym (ap Err same) ∙ sym is ∙ failed in
+    let both : ◌≡◌ {A = Result OpenTable (Stop BbtFault)} (Err stop) (Err Device) = sym (ap Err same) ∙ sym is ∙ failed in
     let one : stop ≡ Device = cc in ap Err one

@@ -8,7 +8,7 @@ use Rattle.std.proofs.lemmas.Option.{same_Some, slice_get_read}
 use Rattle.sst_key.specs.declared.entries.Entry.{Entry}
 use Rattle.sst_key.specs.ListMachine.{is_before_target, is_up_to_target, place_in, place_before, below, up_to, last_of}
 use Rattle.sst_bbt_spec.specs.Way.{IndexedBlock, joined, passed, last_passed, is_separator_before, seek_tag, seek_for_prev_tag, way_seek, way_seek_for_prev}
-use Rattle.sst_bbt_read.specs.TableBlocks.{Table, IsTable, AreEnds, blocks_from, blocks_of, start_at}
+use Rattle.sst_bbt_read.specs.TableBlocks.{OpenTable, IsOpenTable, AreEnds, blocks_from, blocks_of, start_at}
 use Rattle.sst_bbt_read.specs.declared.bbt_reader.BlockEnd.{BlockEnd}
 use Rattle.sst_bbt_read.proofs.BlockSearch.{Falls, tail-falls, count-yes, count-no, none-behind, is_block_before, before-falls}
 use Rattle.sst_bbt_read.proofs.JoinedBlocks.{joined-table}
@@ -112,7 +112,7 @@ leads-past is_before test start (x ∷ rest) entries all =
 
 -- ---- the landings over a table
 
-pub seek-into : (table : Table) (user : List ℕ) (seq i : ℕ) (b : BlockEnd) → IsTable table
+pub seek-into : (table : OpenTable) (user : List ℕ) (seq i : ℕ) (b : BlockEnd) → IsOpenTable table
     → i ≡ count_by (is_block_before user (seek_tag seq)) table.ends → slice_get table.ends i ≡ Some b
     → place_in table.entries (start_at 0 table.ends i + below (part table.entries (start_at 0 table.ends i) b.end) user seq) ≡ way_seek (blocks_of table) user seq
 seek-into table user seq i b is count at =
@@ -124,13 +124,13 @@ seek-into table user seq i b is count at =
     ∙ ap (λ (entries : List Entry). place_in entries led.n) (sym (joined-table table is))
     ∙ sym (ap (option_and_then (λ n. place_in (joined (blocks_of table)) n)) led.is)
 
-pub seek-past : (table : Table) (user : List ℕ) (seq i : ℕ)
+pub seek-past : (table : OpenTable) (user : List ℕ) (seq i : ℕ)
     → i ≡ count_by (is_block_before user (seek_tag seq)) table.ends → length table.ends ≤ i → None ≡ way_seek (blocks_of table) user seq
 seek-past table user seq i count past =
     sym (ap (option_and_then (λ n. place_in (joined (blocks_of table)) n))
     (leads-past (is_separator_before user (seek_tag seq)) (is_before_target user seq) 0 table.ends table.entries (omega (arith, count, past))))
 
-pub prev-into : (table : Table) (user : List ℕ) (seq i : ℕ) (b : BlockEnd) → IsTable table
+pub prev-into : (table : OpenTable) (user : List ℕ) (seq i : ℕ) (b : BlockEnd) → IsOpenTable table
     → i ≡ count_by (is_block_before user (seek_for_prev_tag seq)) table.ends → slice_get table.ends i ≡ Some b
     → place_before (start_at 0 table.ends i + up_to (part table.entries (start_at 0 table.ends i) b.end) user seq) ≡ way_seek_for_prev (blocks_of table) user seq
 prev-into table user seq i b is count at =
@@ -140,7 +140,7 @@ prev-into table user seq i b is count at =
     let place : start_at 0 table.ends i + up_to (part table.entries (start_at 0 table.ends i) b.end) user seq ≡ led.n = omega (arith, sum) in
     ap place_before place ∙ sym (ap (last_passed (joined (blocks_of table))) led.is)
 
-pub prev-past : (table : Table) (user : List ℕ) (seq i : ℕ) → IsTable table
+pub prev-past : (table : OpenTable) (user : List ℕ) (seq i : ℕ) → IsOpenTable table
     → i ≡ count_by (is_block_before user (seek_for_prev_tag seq)) table.ends → length table.ends ≤ i
     → last_of table.entries ≡ way_seek_for_prev (blocks_of table) user seq
 prev-past table user seq i is count past =
@@ -150,10 +150,10 @@ prev-past table user seq i is count past =
 
 -- ---- what the code of a reader reads of its table
 
-found : (table now : Table) (i : ℕ) (b : BlockEnd) → table ≡ now → i < length now.ends → b ≡ slice_index_or table.ends i b
+found : (table now : OpenTable) (i : ℕ) (b : BlockEnd) → table ≡ now → i < length now.ends → b ≡ slice_index_or table.ends i b
     → slice_get table.ends i ≡ Some b
 found table now i b same low at =
-    slice_get_read table.ends (length table.ends) i b refl (subst (λ (t : Table). i < length t.ends) (sym same) low) at
+    slice_get_read table.ends (length table.ends) i b refl (subst (λ (t : OpenTable). i < length t.ends) (sym same) low) at
 
 behind-at : (start : ℕ) (ends : List BlockEnd) (i : ℕ) (b : BlockEnd) → slice_get ends i ≡ Some b → b.end ≡ start_at start ends (suc i)
 behind-at start [] i b at = cc
@@ -161,24 +161,24 @@ behind-at start (x ∷ rest) zero b at = ap (λ (b : BlockEnd). b.end) (sym (sam
 behind-at start (x ∷ rest) (suc i) b at = behind-at x.end rest i b at
 
 -- a block begins where the block before ends
-pub begins-behind : (table now : Table) (i before : ℕ) (b : BlockEnd) → table ≡ now → i < length now.ends → i ≡ suc before
+pub begins-behind : (table now : OpenTable) (i before : ℕ) (b : BlockEnd) → table ≡ now → i < length now.ends → i ≡ suc before
     → b ≡ slice_index_or table.ends before b → b.end ≡ start_at 0 now.ends i
 begins-behind table now i before b same low next at =
     behind-at 0 table.ends before b (found table now before b same (omega (arith, low, next)) at)
-    ∙ ap (λ (t : Table). start_at 0 t.ends (suc before)) same ∙ ap (start_at 0 now.ends) (sym next)
+    ∙ ap (λ (t : OpenTable). start_at 0 t.ends (suc before)) same ∙ ap (start_at 0 now.ends) (sym next)
 
 -- its bounds are those of a part of the entries
-pub bounds : (table now : Table) (start i : ℕ) (b : BlockEnd) → IsTable table → table ≡ now → start ≡ start_at 0 now.ends i → i < length now.ends
+pub bounds : (table now : OpenTable) (start i : ℕ) (b : BlockEnd) → IsOpenTable table → table ≡ now → start ≡ start_at 0 now.ends i → i < length now.ends
     → b ≡ slice_index_or table.ends i b → (start ≤ b.end) × (b.end ≤ length table.entries)
 bounds table now start i b is same begins low at =
     let within = block-within 0 table.ends (length table.entries) i b is.ends (found table now i b same low at) in
-    let here : start ≡ start_at 0 table.ends i = begins ∙ ap (λ (t : Table). start_at 0 t.ends i) (sym same) in
+    let here : start ≡ start_at 0 table.ends i = begins ∙ ap (λ (t : OpenTable). start_at 0 t.ends i) (sym same) in
     (omega (arith, within.1, here), within.2)
 
 -- its entries are that part
-pub entries-between : (table now : Table) (items : List Entry) (start i : ℕ) (end b : BlockEnd) → table ≡ now → items ≡ table.entries → i < length now.ends
+pub entries-between : (table now : OpenTable) (items : List Entry) (start i : ℕ) (end b : BlockEnd) → table ≡ now → items ≡ table.entries → i < length now.ends
     → end ≡ slice_index_or table.ends i end → slice_get now.ends i ≡ Some b → take (end.end - start) (drop start items) ≡ take (b.end - start) (drop start now.entries)
 entries-between table now items start i end b same is low at there =
-    let one : end ≡ b = same_Some end b (sym (found table now i end same low at) ∙ ap (λ (t : Table). slice_get t.ends i) same ∙ there) in
+    let one : end ≡ b = same_Some end b (sym (found table now i end same low at) ∙ ap (λ (t : OpenTable). slice_get t.ends i) same ∙ there) in
     ap (λ (e : BlockEnd). take (e.end - start) (drop start items)) one
-    ∙ ap (λ (es : List Entry). take (b.end - start) (drop start es)) (is ∙ ap (λ (t : Table). t.entries) same)
+    ∙ ap (λ (es : List Entry). take (b.end - start) (drop start es)) (is ∙ ap (λ (t : OpenTable). t.entries) same)

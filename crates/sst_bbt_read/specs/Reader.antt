@@ -3,12 +3,12 @@ use Rattle.std.specs.Prelude.{◌≡◌, ℕ, ◌<◌, List, ◌++◌, length, R
 use Rattle.sst_key.specs.declared.entries.Entry.{Entry}
 use Rattle.sst_num.specs.declared.stops.Stop.{Stop}
 use Rattle.sst_num.specs.declared.stops.Stop.TheVariants.{Damage, Device, Memory}
-use Rattle.sst_bbt_read.specs.TableBlocks.{Table, AreEntries, blocks_of, row_blocks_of}
+use Rattle.sst_bbt_read.specs.TableBlocks.{OpenTable, AreEntries, blocks_of, row_blocks_of}
 use Rattle.sst_bbt_read.specs.Opening.{RowBlock}
 use Rattle.sst_bbt_read.specs.declared.bbt_fault.BbtFault.{BbtFault}
 
 -- an answer has the blocks that were read, or is the first fault
-abbrev pub Opened : Result Table (Stop BbtFault) → Result (List RowBlock) BbtFault → Type 0
+abbrev pub Opened : Result OpenTable (Stop BbtFault) → Result (List RowBlock) BbtFault → Type 0
 Opened (Ok table) read = read ≡ Ok (row_blocks_of (blocks_of table))
 Opened (Err (Damage fault)) read = read ≡ Err fault
 Opened (Err Device) read = Unit {0}

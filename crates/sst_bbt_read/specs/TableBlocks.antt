@@ -19,7 +19,7 @@ abbrev pub row_blocks_of : List IndexedBlock → List RowBlock
 row_blocks_of blocks = map row_block_of blocks
 
 -- what a reader keeps of a table: the blocks, each by its separator and where its entries end; the entries of all
-pub record Table : Type 0 where
+pub record OpenTable : Type 0 where
   pub ends : List BlockEnd
   pub entries : List Entry
 
@@ -30,7 +30,7 @@ blocks_from start (b ∷ rest) entries =
     record { separator = b.separator; entries = take (b.end - start) (drop start entries) } ∷ blocks_from b.end rest entries
 
 -- the blocks of a table
-abbrev pub blocks_of : Table → List IndexedBlock
+abbrev pub blocks_of : OpenTable → List IndexedBlock
 blocks_of table = blocks_from 0 table.ends table.entries
 
 -- the blocks of `count` entries: each has one entry at least, the first begins at `start`, and the last ends at the end
@@ -56,7 +56,7 @@ pub record AreEntries (entries : List Entry) : Type 0 where
   pub users : All (λ (e : Entry). length e.user ≤ 65536) entries
 
 -- what a reader keeps of a table: the separators are stored keys in order, and the entries of each block are in order
-pub record IsTable (table : Table) : Type 0 where
+pub record IsOpenTable (table : OpenTable) : Type 0 where
   pub ends : AreEnds 0 table.ends (length table.entries)
   pub separators : All (λ (b : BlockEnd). 8 ≤ length b.separator) table.ends
   pub ordered : AreOrdered (Index false false) (separator_rows table.ends)

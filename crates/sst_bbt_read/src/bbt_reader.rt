@@ -52,39 +52,41 @@ pub struct BbtReader {
 }
 
 impl Model for BbtReader {
-    ghost use Rattle.sst_bbt_read.specs.TableBlocks.{IsTable, Table};
+    ghost use Rattle.sst_bbt_read.specs.TableBlocks.{IsOpenTable, OpenTable};
 
-    ghost Value = { Table };
+    ghost Value = { OpenTable };
 
     ghost view = { λ r. record { ends = r.ends.items; entries = r.entries.items } };
 
-    ghost invariant = { λ r. IsTable (record { ends = r.ends.items; entries = r.entries.items }) };
+    ghost invariant = { λ r. IsOpenTable (record { ends = r.ends.items; entries = r.entries.items }) };
 }
 
-/// Opens the named file: reads what it says of itself, its index, and its data blocks.
-///
-/// The first thing that is wrong is answered, in this order: what `load` of `sst_meta` answers; the index; the data
-/// blocks, in the order of the index.
-/// RocksDB: `BlockBasedTable::Open` in table/block_based/block_based_table_reader.cc.
-#[tactic(auto, unfolding(crate::specs::Opening::blocks_read))]
-pub fn open<F: Folder>(
-    alloc: Global,
-    files: &mut F,
-    name: &str,
-) -> Result<BbtReader, Stop<BbtFault>>
-    ensures told { (file : List ℕ) → file_of (F.held files.old) name.now ≡ Some file → Opened result (blocks_read file) }
-    ensures device { result ≡ Err Stop.Device → IsTrue (misses (F.held files.old) name.now 0)
-        ⊎ Rose (F.faults files.old) (F.faults files.new) }
-    ensures absent { IsTrue (misses (F.held files.old) name.now 0) → (result ≡ Err Stop.Device) ⊎ (result ≡ Err Stop.Memory) }
-    ensures same_files { F.held files.new ≡ F.held files.old }
-    ensures counts { F.faults files.old ≤ F.faults files.new }
-    ensures hides_none { (result ≡ Err Stop.Device) ⊎ (F.faults files.new ≡ F.faults files.old) }
-{
-    match load(alloc, files, name) {
-        Err(stop) => Err(meta_stop(stop)),
-        Ok(loaded) => {
-            let end = loaded.len.saturating_sub(FOOTER_LENGTH);
-            open_index(alloc, files, name, end, loaded.footer.index)
+impl BbtReader {
+    /// Opens the named file: reads what it says of itself, its index, and its data blocks.
+    ///
+    /// The first thing that is wrong is answered, in this order: what `load` of `sst_meta` answers; the index; the data
+    /// blocks, in the order of the index.
+    /// RocksDB: `BlockBasedTable::Open` in table/block_based/block_based_table_reader.cc.
+    #[tactic(auto, unfolding(crate::specs::Opening::blocks_read))]
+    pub fn open<F: Folder>(
+        alloc: Global,
+        files: &mut F,
+        name: &str,
+    ) -> Result<BbtReader, Stop<BbtFault>>
+        ensures told { (file : List ℕ) → file_of (F.held files.old) name.now ≡ Some file → Opened result (blocks_read file) }
+        ensures device { result ≡ Err Stop.Device → IsTrue (misses (F.held files.old) name.now 0)
+            ⊎ Rose (F.faults files.old) (F.faults files.new) }
+        ensures absent { IsTrue (misses (F.held files.old) name.now 0) → (result ≡ Err Stop.Device) ⊎ (result ≡ Err Stop.Memory) }
+        ensures same_files { F.held files.new ≡ F.held files.old }
+        ensures counts { F.faults files.old ≤ F.faults files.new }
+        ensures hides_none { (result ≡ Err Stop.Device) ⊎ (F.faults files.new ≡ F.faults files.old) }
+    {
+        match load(alloc, files, name) {
+            Err(stop) => Err(meta_stop(stop)),
+            Ok(loaded) => {
+                let end = loaded.len.saturating_sub(FOOTER_LENGTH);
+                open_index(alloc, files, name, end, loaded.footer.index)
+            }
         }
     }
 }

@@ -26,7 +26,7 @@
 //!
 //! # Promises
 //!
-//! - [`open`] answers the data blocks that the file reads as (`blocks_read`, specs/Opening.antt), or the first thing that is
+//! - [`BbtReader::open`] answers the data blocks that the file reads as (`blocks_read`, specs/Opening.antt), or the first thing that is
 //!   wrong in the order of loading, index, data blocks; a checksum that differs is named before a row of its block is read.
 //!   No file changes, and a fault of the folder is answered as one.
 //! - A file opens to data blocks exactly where it reads as them ([`a_file_opens_to_its_blocks`]); a fault that is read is
@@ -49,7 +49,7 @@ mod opening_laws;
 mod search;
 
 pub use bbt_fault::BbtFault;
-pub use bbt_reader::{BbtReader, BlockEnd, Cursor, open};
+pub use bbt_reader::{BbtReader, BlockEnd, Cursor};
 pub use opening_laws::{
     a_fault_is_shown, a_file_opens_to_its_blocks, a_file_that_opens_shows_no_fault,
 };

@@ -4,7 +4,7 @@
 use crate::command::WriteLine;
 use crate::commands::produce::produce;
 use crate::output::damage::fault_line;
-use sst_bbt_read::{BbtFault, BbtReader, open};
+use sst_bbt_read::{BbtFault, BbtReader};
 use sst_bbt_write::BbtOptions;
 use sst_device::{FrameFault, MemFolder, MemIntake};
 use sst_key::Kind;
@@ -56,7 +56,7 @@ fn one_entry(alloc: Global) -> Result<Vec<u8>, Fail> {
 fn fault_of(alloc: Global, bytes: &[u8]) -> Result<Option<BbtFault>, Fail> {
     let mut folder = MemFolder::new(alloc, &[])?;
     folder.put_file(NAME, bytes)?;
-    match open(alloc, &mut folder, NAME) {
+    match BbtReader::open(alloc, &mut folder, NAME) {
         Err(Stop::Damage(fault)) => Ok(Some(fault)),
         _ => Ok(None),
     }
@@ -76,7 +76,7 @@ fn has_one_entry(reader: &BbtReader) -> bool {
 #[test]
 fn a_file_of_one_entry(rt: HostRuntime) -> Result<(), Fail> {
     let mut folder = written(rt.alloc(), b"61 1 P 78\n", &[])?;
-    match open(rt.alloc(), &mut folder, NAME) {
+    match BbtReader::open(rt.alloc(), &mut folder, NAME) {
         Ok(reader) => assert!(rt; has_one_entry(&reader)),
         Err(stop) => panic!(rt; "{stop:?}"),
     }
@@ -86,7 +86,7 @@ fn a_file_of_one_entry(rt: HostRuntime) -> Result<(), Fail> {
 #[test]
 fn a_file_of_no_entry(rt: HostRuntime) -> Result<(), Fail> {
     let mut folder = written(rt.alloc(), b"", &[])?;
-    match open(rt.alloc(), &mut folder, NAME) {
+    match BbtReader::open(rt.alloc(), &mut folder, NAME) {
         Ok(reader) => assert_eq!(rt; reader.entries.len(), 0),
         Err(stop) => panic!(rt; "{stop:?}"),
     }
@@ -106,7 +106,7 @@ fn a_file_cut_short(rt: HostRuntime) -> Result<(), Fail> {
 #[test]
 fn an_absent_file(rt: HostRuntime) -> Result<(), Fail> {
     let mut folder = MemFolder::new(rt.alloc(), &[])?;
-    match open(rt.alloc(), &mut folder, NAME) {
+    match BbtReader::open(rt.alloc(), &mut folder, NAME) {
         Err(stop) => assert_eq!(rt; stop, Stop::Device),
         Ok(_) => panic!(rt; "opened"),
     }
@@ -162,7 +162,7 @@ fn a_compressed_block(rt: HostRuntime) -> Result<(), Fail> {
 /// Whether opening stops for the device where the call of this number fails.
 fn stops_at(alloc: Global, call: u64) -> Result<bool, Fail> {
     let mut folder = written(alloc, b"61 1 P 78\n", &[call])?;
-    match open(alloc, &mut folder, NAME) {
+    match BbtReader::open(alloc, &mut folder, NAME) {
         Err(stop) => Ok(stop == Stop::Device),
         Ok(_) => Ok(false),
     }

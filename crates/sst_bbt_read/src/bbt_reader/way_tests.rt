@@ -2,7 +2,7 @@
 //! from the definitions in specs/Way.antt of `sst_bbt_spec`.
 //!
 //! In each file an entry is written as its user key and its sequence number; each is of the kind Value.
-use super::{BbtReader, open};
+use super::BbtReader;
 use sst_device::MemFolder;
 use sst_key::{EntryView, Kind, Reply};
 use std::alloc::Global;
@@ -95,7 +95,7 @@ fn bytes_of(alloc: Global, parts: &[&str]) -> Result<Vec<u8>, Fail> {
 fn opened(alloc: Global, bytes: &[u8]) -> Result<Option<BbtReader>, Fail> {
     let mut folder = MemFolder::new(alloc, &[])?;
     folder.put_file(NAME, bytes)?;
-    match open(alloc, &mut folder, NAME) {
+    match BbtReader::open(alloc, &mut folder, NAME) {
         Ok(reader) => Ok(Some(reader)),
         Err(_) => Ok(None),
     }

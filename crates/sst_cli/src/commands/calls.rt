@@ -25,7 +25,7 @@ use crate::output::answers::print_answers;
 use crate::output::damage::fault_line;
 use crate::output::printing::{print, print_refusal, status_of};
 use crate::status::Status;
-use sst_bbt_read::{BbtFault, BbtReader, open};
+use sst_bbt_read::{BbtFault, BbtReader};
 use sst_device::{Folder, Intake, Sink};
 use sst_key::Call;
 use sst_num::{Memory, Stop};
@@ -79,7 +79,7 @@ fn answer_calls<F: Folder, O: Sink>(
     ensures hides_none { (result ≡ Status.Device)
         ⊎ ((F.faults files.new ≡ F.faults files.old) × (O.faults out.new ≡ O.faults out.old)) }
 {
-    match open(alloc, files, name) {
+    match BbtReader::open(alloc, files, name) {
         Ok(reader) => print_all(alloc, &reader, calls, out),
         Err(Stop::Damage(fault)) => print_fault(alloc, out, fault),
         Err(Stop::Device) => Status::Device,

@@ -1,7 +1,7 @@
 use Rattle.std.proofs.Common.{◌≤◌, length, Option, ap, ◌∙◌, arith}
 use Rattle.sst_device.specs.Folder.{Files, file_of}
 use Rattle.sst_bbt_read.proofs.OpenSteps.{stopped, loaded_length, after_load, whole_failed}
-use Rattle.sst_bbt_read.proofs.bbt_reader.open.Goals as goal
+use Rattle.sst_bbt_read.proofs.bbt_reader.BbtReader.open.Goals as goal
 
 pub returns-in-Err-clause-told : goal.returns-in-Err-clause-told
 returns-in-Err-clause-told g c = λ file told. rw (c.meta_stop.ensures) (stopped c.in-Err.stop file (c.in-Err.ensures.told file told))
