@@ -9,8 +9,8 @@
 use crate::lists::numbered_lines;
 use crate::written_file::{Behind, put_behind};
 use sst_cli::Status;
-use sst_worked_runs::asserting::assert_answered;
-use sst_worked_runs::worked_run::{
+use sst_tests_shared::asserting::assert_answered;
+use sst_tests_shared::worked_run::{
     NAME, Object, answered_with, failing_at, file_in_blocks, holds, other_is_as_it_was, printed,
     put_hex, written_with,
 };

@@ -7,9 +7,9 @@
 //! RocksDB: `BlockBasedTable::NewDataBlockIterator` in table/block_based/block_based_table_reader.cc. That all blocks are
 //! looked at before the first call is this project's own.
 use crate::damaged::assert_damaged;
-use sst_worked_runs::asserting::assert_answered;
-use sst_worked_runs::small_file::{DATA, INDEX_ROW, METAINDEX, ONE_RESTART, ROW, TAIL};
-use sst_worked_runs::worked_run::put_hex;
+use sst_tests_shared::asserting::assert_answered;
+use sst_tests_shared::small_file::{DATA, INDEX_ROW, METAINDEX, ONE_RESTART, ROW, TAIL};
+use sst_tests_shared::worked_run::put_hex;
 use std::test::Fail;
 
 /// The row of the second data block.

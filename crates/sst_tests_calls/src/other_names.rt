@@ -1,13 +1,13 @@
 //! Files of the line `61 1 P 78` with names that a reader passes by, or whose values are good.
 //!
 //! RocksDB: `ReadPropertiesHelper` in table/meta_blocks.cc keeps names that it doesn't know.
-use sst_worked_runs::asserting::assert_answered;
-use sst_worked_runs::named_file::{
+use sst_tests_shared::asserting::assert_answered;
+use sst_tests_shared::named_file::{
     COMPARATOR, DELTA, EXTERNAL, GLOBAL, INDEX_TYPE, PROPERTIES, USER_KEY, file_with,
     file_with_names,
 };
-use sst_worked_runs::small_file::{DATA, INDEX, ONE_RESTART, TAIL};
-use sst_worked_runs::worked_run::put_hex;
+use sst_tests_shared::small_file::{DATA, INDEX, ONE_RESTART, TAIL};
+use sst_tests_shared::worked_run::put_hex;
 use std::alloc::Global;
 use std::test::Fail;
 

@@ -4,7 +4,7 @@
 //! status, what is printed and the bytes of the file. What is proved of `run` holds for every input; these runs
 //! show what no clause says: that the definitions meant RocksDB's files and the texts that a caller reads, that a
 //! run with memory at hand succeeds, and what the calls outside that fail one by one lead to.
-//! `sst_worked_runs` makes the runs.
+//! `sst_tests_shared` makes the runs.
 //!
 //! Expected bytes come from the worked layout of the format, and from an independent program that writes the same
 //! files, never from the output of this program.

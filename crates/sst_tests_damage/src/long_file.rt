@@ -3,7 +3,7 @@
 //! No such file is made: a folder that tells nothing says how long each of its files is, and fails to read them.
 use sst_cli::{Status, run};
 use sst_device::{DevStop, Folder, MemIntake, MemSink};
-use sst_worked_runs::worked_run::{CALLS, owned};
+use sst_tests_shared::worked_run::{CALLS, owned};
 use std::alloc::Global;
 use std::test::Fail;
 

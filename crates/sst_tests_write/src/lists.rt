@@ -8,7 +8,7 @@
 use crate::one_block::line_of;
 use crate::written_file::{Behind, put_behind};
 use sst_cli::Status;
-use sst_worked_runs::worked_run::{
+use sst_tests_shared::worked_run::{
     NAME, Ran, holds, other_is_as_it_was, printed, put_hex, refused, written,
 };
 use std::alloc::Global;

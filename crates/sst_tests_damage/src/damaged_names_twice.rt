@@ -5,10 +5,10 @@
 //!
 //! RocksDB: `BlockBasedTable::Open` in table/block_based/block_based_table_reader.cc.
 use crate::damaged::{assert_damaged, assert_refused};
-use sst_worked_runs::named_file::{
+use sst_tests_shared::named_file::{
     COMPARATOR, INDEX_TYPE, PROPERTIES, RANGE_DEL, USER_KEY, file_with_index, file_with_names,
 };
-use sst_worked_runs::small_file::{DATA, INDEX, ONE_RESTART, TAIL};
+use sst_tests_shared::small_file::{DATA, INDEX, ONE_RESTART, TAIL};
 use std::test::Fail;
 
 /// Files, and what is told first. The checksums that are right were made by an independent program.

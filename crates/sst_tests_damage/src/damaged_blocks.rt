@@ -1,16 +1,16 @@
 //! Files with a block whose bytes are at fault.
 //!
 //! Each row of a table is a block and its trailer in pieces of hex digits, and what is printed behind `damage`. The block
-//! stands in the file that [`sst_worked_runs::small_file`] tells, or in the file of two entries, whose rows stand each at
+//! stands in the file that [`sst_tests_shared::small_file`] tells, or in the file of two entries, whose rows stand each at
 //! a restart: there the data block of 38 bytes is at 0, the index of 22 at 43, and the metaindex at 70. The numbers in a fault are
 //! where the block begins, and then where the row begins in it, or which restart it is.
 //!
 //! RocksDB: `Block` and `DecodeEntry` in table/block_based/block.cc.
 use crate::damaged::assert_refused;
-use sst_worked_runs::small_file::{
+use sst_tests_shared::small_file::{
     DATA, FRONT, INDEX, INDEX_ROW, METAINDEX, ONE_RESTART, ROW, TAIL,
 };
-use sst_worked_runs::worked_run::put_hex;
+use sst_tests_shared::worked_run::put_hex;
 use std::test::Fail;
 
 /// The first row of the data block of two: 61 2 P 78.

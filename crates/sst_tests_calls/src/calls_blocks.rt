@@ -6,8 +6,8 @@
 //! RocksDB: `BlockBasedTableIterator` in table/block_based/block_based_table_iterator.cc; the separators that a writer may
 //! choose are in table/block_based/index_builder.h.
 use crate::calls::ON_SHARING;
-use sst_worked_runs::asserting::assert_answered;
-use sst_worked_runs::worked_run::put_hex;
+use sst_tests_shared::asserting::assert_answered;
+use sst_tests_shared::worked_run::put_hex;
 use std::alloc::Global;
 use std::test::Fail;
 

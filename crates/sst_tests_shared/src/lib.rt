@@ -1,6 +1,6 @@
 //! What the worked runs of the whole program share: runs over objects in memory, and files to answer from.
 //!
-//! The tests stand in `sst_write_examples`, `sst_calls_examples` and `sst_damage_examples`, so that three processes can
+//! The tests stand in `sst_tests_write`, `sst_tests_calls` and `sst_tests_damage`, so that three processes can
 //! prove them. A run hands words to `sst_cli::run` over a folder, an input and an output in memory, and keeps what
 //! it left.
 //!

@@ -1,15 +1,15 @@
 //! Files with a property that is at fault, or that says a form which isn't read yet.
 //!
-//! The files are those of [`sst_worked_runs::named_file`]; the faults are worked by hand and told by an independent program.
+//! The files are those of [`sst_tests_shared::named_file`]; the faults are worked by hand and told by an independent program.
 //!
 //! RocksDB: `BlockBasedTable::Open` and `GetGlobalSequenceNumber` in table/block_based/block_based_table_reader.cc; the names
 //! are in table/table_properties.cc, table/block_based/block_based_table_factory.cc and
 //! table/sst_file_writer_collectors.h.
 use crate::damaged::assert_refused;
-use sst_worked_runs::named_file::{
+use sst_tests_shared::named_file::{
     COMPARATOR, DELTA, EXTERNAL, GLOBAL, INDEX_TYPE, USER_KEY, file_with,
 };
-use sst_worked_runs::worked_run::file_of_lines;
+use sst_tests_shared::worked_run::file_of_lines;
 use std::alloc::Global;
 use std::process::Abort;
 use std::test::Fail;

@@ -3,9 +3,9 @@
 //!
 //! The texts are worked by hand. They are this project's own.
 use sst_cli::Status;
-use sst_worked_runs::asserting::assert_no_command;
-use sst_worked_runs::small_file::bare_file;
-use sst_worked_runs::worked_run::{
+use sst_tests_shared::asserting::assert_no_command;
+use sst_tests_shared::small_file::bare_file;
+use sst_tests_shared::worked_run::{
     CALLS, NAME, NONE_FAILS, Object, Ran, answered, answered_with, answered_with_stuck_sink,
     failing_at, file_of_lines, holds, other_is_as_it_was, printed, refused, run_on, still_to_come,
 };

@@ -1,8 +1,8 @@
 //! Worked runs of the command `calls` on files that are answered from.
 //!
 //! Each test hands words to `sst_cli::run` over a folder, an input and an output in memory, and compares the
-//! status, what is printed and the bytes of the file. `sst_write_examples` says what such runs show, and
-//! `sst_worked_runs` makes them.
+//! status, what is printed and the bytes of the file. `sst_tests_write` says what such runs show, and
+//! `sst_tests_shared` makes them.
 //!
 //! Expected answers come from a count by hand over the list, and files of another writer from an independent program,
 //! never from the output of this program.

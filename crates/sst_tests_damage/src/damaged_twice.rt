@@ -7,7 +7,7 @@
 //! RocksDB: `BlockBasedTable::Open` in table/block_based/block_based_table_reader.cc.
 use crate::damaged::{PLAIN_MAGIC, assert_damaged};
 use crate::damaged_blocks::{FIRST, FRONT_OF_TWO, INDEX_OF_TWO, RESTARTS, SECOND};
-use sst_worked_runs::small_file::{
+use sst_tests_shared::small_file::{
     DATA, FRONT, INDEX, INDEX_ROW, MAGIC, METAINDEX, ONE_RESTART, ROW, TAIL, VERSION, ZEROS,
 };
 use std::test::Fail;

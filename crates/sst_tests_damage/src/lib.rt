@@ -1,8 +1,8 @@
 //! Worked runs of the command `calls` on files with a fault.
 //!
 //! Each test hands words to `sst_cli::run` over a folder, an input and an output in memory, and compares the
-//! status, what is printed and the bytes of the file. `sst_write_examples` says what such runs show, and
-//! `sst_worked_runs` makes them.
+//! status, what is printed and the bytes of the file. `sst_tests_write` says what such runs show, and
+//! `sst_tests_shared` makes them.
 //!
 //! Expected faults are worked by hand from the layout of the format, and the checksums are those of an independent program,
 //! never of this one.

@@ -1,15 +1,15 @@
 //! Damaged files: `sst calls FILE` where FILE is no block-based table, or is of a form that isn't built yet.
 //!
 //! Each row of a table is a file in pieces of hex digits, and what is printed behind `damage`. Most come of the file that
-//! [`sst_worked_runs::small_file`] tells. The faults are worked by hand from the layout. Where a block is changed its
+//! [`sst_tests_shared::small_file`] tells. The faults are worked by hand from the layout. Where a block is changed its
 //! checksum was made anew, by an independent program.
 //!
 //! RocksDB: `Footer::DecodeFrom` in table/format.cc and `BlockFetcher` in table/block_fetcher.cc.
 use sst_cli::Status;
-use sst_worked_runs::small_file::{
+use sst_tests_shared::small_file::{
     DATA, FRONT, INDEX, INDEX_ROW, MAGIC, METAINDEX, ONE_RESTART, ROW, TAIL, VERSION, ZEROS,
 };
-use sst_worked_runs::worked_run::{NAME, answered, holds, other_is_as_it_was, printed, put_hex};
+use sst_tests_shared::worked_run::{NAME, answered, holds, other_is_as_it_was, printed, put_hex};
 use std::alloc::Global;
 use std::process::Abort;
 use std::test::Fail;

@@ -4,7 +4,7 @@
 //! differs from file to file is told by each test, in hex digits.
 //!
 //! RocksDB: `PropertyBlockBuilder` in table/meta_blocks.cc, `TablePropertiesNames` in table/table_properties.cc.
-use sst_worked_runs::worked_run::put_hex;
+use sst_tests_shared::worked_run::put_hex;
 use std::alloc::Global;
 use std::test::Fail;
 

@@ -5,9 +5,9 @@
 //!
 //! RocksDB: `DB::Get` in include/rocksdb/db.h and `Iterator` in include/rocksdb/iterator.h; what other writers may
 //! choose in a block is in table/block_based/block_builder.cc.
-use sst_worked_runs::asserting::assert_answered;
-use sst_worked_runs::small_file::bare_file;
-use sst_worked_runs::worked_run::{file_of_lines, put_hex};
+use sst_tests_shared::asserting::assert_answered;
+use sst_tests_shared::small_file::bare_file;
+use sst_tests_shared::worked_run::{file_of_lines, put_hex};
 use std::alloc::Global;
 use std::test::Fail;
 

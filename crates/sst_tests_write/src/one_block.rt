@@ -6,8 +6,8 @@
 //! RocksDB: `BlockBuilder` in table/block_based/block_builder.cc, `FooterBuilder::Build` in table/format.cc.
 use crate::written_file::{Behind, put_behind};
 use sst_cli::Status;
-use sst_worked_runs::asserting::assert_no_command;
-use sst_worked_runs::worked_run::{
+use sst_tests_shared::asserting::assert_no_command;
+use sst_tests_shared::worked_run::{
     NAME, Object, Ran, WORDS, failing_at, holds, other_is_as_it_was, printed, put_hex, refused,
     run_on, run_with_stuck_sink, written,
 };

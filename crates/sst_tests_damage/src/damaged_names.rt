@@ -1,13 +1,13 @@
 //! Files whose metaindex or properties can't be had: tombstones of ranges, a handle that is none, and a block of properties
 //! that is at fault.
 //!
-//! The files are those of [`sst_worked_runs::named_file`]; the faults are worked by hand and told by an independent program.
+//! The files are those of [`sst_tests_shared::named_file`]; the faults are worked by hand and told by an independent program.
 //!
 //! RocksDB: `ReadTablePropertiesHelper` in table/meta_blocks.cc, `BlockBasedTable::ReadRangeDelBlock` in
 //! table/block_based/block_based_table_reader.cc. That tombstones aren't read is this project's own.
 use crate::damaged::{assert_damaged, assert_refused};
-use sst_worked_runs::named_file::{PROPERTIES, RANGE_DEL, file_with_block, file_with_names};
-use sst_worked_runs::small_file::{DATA, INDEX, ONE_RESTART, TAIL};
+use sst_tests_shared::named_file::{PROPERTIES, RANGE_DEL, file_with_block, file_with_names};
+use sst_tests_shared::small_file::{DATA, INDEX, ONE_RESTART, TAIL};
 use std::test::Fail;
 
 /// Names of the metaindex and their values, and what is told of the file.

@@ -3,8 +3,8 @@
 //! The words are this project's own. RocksDB: `BlockBasedTableOptions::block_size` in include/rocksdb/table.h.
 use crate::one_block::written_file;
 use sst_cli::Status;
-use sst_worked_runs::asserting::assert_no_command;
-use sst_worked_runs::worked_run::{
+use sst_tests_shared::asserting::assert_no_command;
+use sst_tests_shared::worked_run::{
     NAME, NONE_FAILS, holds, other_is_as_it_was, printed, run_on, still_to_come, written_with,
 };
 use std::alloc::Global;

@@ -6,8 +6,8 @@
 //! RocksDB: `DB::Get` in include/rocksdb/db.h and `Iterator` in include/rocksdb/iterator.h.
 use sst_key::{Answer, Call, Entry, Format, Kind, Reply, Target, answer};
 use sst_num::Bytes;
-use sst_worked_runs::asserting::assert_answered;
-use sst_worked_runs::worked_run::file_in_blocks;
+use sst_tests_shared::asserting::assert_answered;
+use sst_tests_shared::worked_run::file_in_blocks;
 use std::alloc::Global;
 use std::test::Fail;
 

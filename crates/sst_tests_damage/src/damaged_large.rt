@@ -6,8 +6,8 @@
 //! this project's own.
 use crate::damaged::assert_refused;
 use sst_cli::Status;
-use sst_worked_runs::small_file::{METAINDEX, ONE_RESTART};
-use sst_worked_runs::worked_run::{Ran, answered, put_hex};
+use sst_tests_shared::small_file::{METAINDEX, ONE_RESTART};
+use sst_tests_shared::worked_run::{Ran, answered, put_hex};
 use std::alloc::Global;
 use std::process::Abort;
 use std::test::Fail;
