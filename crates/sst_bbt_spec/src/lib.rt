@@ -54,8 +54,6 @@
 #![tactic(auto)]
 
 mod laws;
-#[cfg(test)]
-mod tests;
 
 pub use laws::{
     a_file_stands_for_one_list, a_file_that_stands_is_separated, a_key_between_separates,

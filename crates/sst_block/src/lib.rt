@@ -75,17 +75,11 @@
 
 mod builder;
 mod check;
-#[cfg(test)]
-mod check_tests;
 mod fault;
 mod iter;
-#[cfg(test)]
-mod iter_tests;
 mod laws;
 mod row;
 mod row_form;
-#[cfg(test)]
-mod tests;
 
 pub use builder::BlockBuilder;
 pub use check::check_block;

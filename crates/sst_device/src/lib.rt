@@ -78,18 +78,12 @@
 
 mod counts;
 mod drawing;
-#[cfg(test)]
-mod drawing_tests;
 mod folder;
 mod frame;
 mod laws;
 mod memory;
 mod real;
 mod stream;
-#[cfg(test)]
-mod tests;
-#[cfg(test)]
-mod want_of_memory_tests;
 
 pub use drawing::{draw, draw_framed};
 pub use folder::{DevStop, Failed, Folder};

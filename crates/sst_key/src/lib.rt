@@ -74,12 +74,8 @@ mod faults;
 mod keys;
 mod list_laws;
 mod list_machine;
-#[cfg(test)]
-mod list_machine_tests;
 mod reading;
 mod room;
-#[cfg(test)]
-mod tests;
 
 pub use calls::{Answer, Call, Format, Reply, Target};
 pub use entries::{Entry, EntryView, Kind};

@@ -96,23 +96,15 @@
 mod builder;
 mod footer;
 mod footer_laws;
-#[cfg(test)]
-mod footer_tests;
 mod laws;
 mod loading;
 mod loading_laws;
-#[cfg(test)]
-mod loading_outside_tests;
-#[cfg(test)]
-mod loading_tests;
 mod looked_at;
 mod meta_fault;
 mod name;
 pub mod names;
 mod pair;
 mod props;
-#[cfg(test)]
-mod tests;
 mod values;
 
 pub use builder::PropsBuilder;

@@ -66,8 +66,6 @@ mod laws;
 mod put;
 mod stops;
 mod take;
-#[cfg(test)]
-mod tests;
 
 pub use block_handle::Handle;
 pub use byte_list::Bytes;

@@ -43,8 +43,6 @@
 mod checksum;
 mod masking;
 mod tables;
-#[cfg(test)]
-mod tests;
 
 pub use checksum::crc32c;
 pub use masking::{mask, unmask};

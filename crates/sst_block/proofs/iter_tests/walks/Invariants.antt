@@ -1,5 +1,0 @@
-use Rattle.sst_block.proofs.Walking.{Moved}
-use Rattle.sst_block.proofs.iter_tests.walks.Given as goal
-
-abbrev pub invariant-loop-key : goal.invariant-loop-key
-invariant-loop-key g l = Moved l.walk l.there

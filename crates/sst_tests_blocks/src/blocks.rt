@@ -1,0 +1,275 @@
+//! Tests of blocks: one that is built, those that are checked and walked, and those that are refused.
+//!
+//! RocksDB: `BlockBuilder` in table/block_based/block_builder.cc, `Block` and `DecodeEntry` in
+//! table/block_based/block.cc.
+ghost use Rattle.std.specs.Prelude.{ℕ, ◌≤◌, ◌^◌, List, Option, length};
+ghost use Rattle.sst_block.specs.Block.{Row};
+ghost use Rattle.sst_block.specs.Builder.{HasNoFlags};
+ghost use Rattle.sst_block.specs.Iter.{Walks};
+
+use sst_block::{BlockBuilder, BlockFault, BlockIter, RowForm, check_block};
+use sst_key::KeyRoom;
+use sst_num::Refused;
+use std::alloc::Global;
+use std::process::Abort;
+use std::test::Fail;
+
+/// What the rows of a block are.
+#[derive(Clone, Copy)]
+enum Kind {
+    Names,
+    Entries,
+    Index,
+}
+
+/// The form of such rows. An index has stored keys and whole handles.
+fn form_of(kind: Kind) -> RowForm
+    ensures { HasNoFlags result }
+{
+    match kind {
+        Kind::Names => RowForm::Names,
+        Kind::Entries => RowForm::Entries,
+        Kind::Index => RowForm::Index {
+            user_key: false,
+            delta: false,
+        },
+    }
+}
+
+/// Keys and values of rows.
+type Rows = &'static [(&'static [u8], &'static [u8])];
+
+/// Sound blocks, and their rows.
+static SOUND: [(&[u8], Kind, Rows); 9] = [
+    // No row, the one restart 0, and that there is one restart.
+    (b"\0\0\0\0\x01\0\0\0", Kind::Names, &[]),
+    (b"\0\0\0\0\x01\0\0\0", Kind::Entries, &[]),
+    (b"\0\0\0\0\x01\0\0\0", Kind::Index, &[]),
+    // The entry of the user key a (61) at sequence number 1, whose value is x.
+    (
+        b"\x00\x09\x01a\x01\x01\0\0\0\0\0\0x\0\0\0\0\x01\0\0\0",
+        Kind::Entries,
+        &[(b"a\x01\x01\0\0\0\0\0\0", b"x")],
+    ),
+    // The entries of a at the sequence numbers 2 and 1. The second shares the user key and the kind.
+    (
+        b"\x00\x09\x00a\x01\x02\0\0\0\0\0\0\x02\x07\x00\x01\0\0\0\0\0\0\0\0\0\0\x01\0\0\0",
+        Kind::Entries,
+        &[
+            (b"a\x01\x02\0\0\0\0\0\0", b""),
+            (b"a\x01\x01\0\0\0\0\0\0", b""),
+        ],
+    ),
+    // The handle of offset 0 and size 21.
+    (
+        b"\x00\x08\x02\x01\0\0\0\0\0\0\0\x00\x15\0\0\0\0\x01\0\0\0",
+        Kind::Index,
+        &[(b"\x01\0\0\0\0\0\0\0", b"\x00\x15")],
+    ),
+    // The rows a, ab and b, which begin at 0, 4 and 8, and of which the second shares a; the restarts are 0 and 8.
+    (
+        b"\x00\x01\x00a\x01\x01\x00b\x00\x01\x00b\0\0\0\0\x08\0\0\0\x02\0\0\0",
+        Kind::Names,
+        &[(b"a", b""), (b"ab", b""), (b"b", b"")],
+    ),
+    // The rows app, apple and apply, which begin at 0, 6 and 12. The second shares two bytes where it could share three,
+    // and the third none; it is a restart, or not.
+    (
+        b"\x00\x03\x00app\x02\x03\x00ple\x00\x05\x00apply\0\0\0\0\x0c\0\0\0\x02\0\0\0",
+        Kind::Names,
+        &[(b"app", b""), (b"apple", b""), (b"apply", b"")],
+    ),
+    (
+        b"\x00\x03\x00app\x02\x03\x00ple\x00\x05\x00apply\0\0\0\0\x01\0\0\0",
+        Kind::Names,
+        &[(b"app", b""), (b"apple", b""), (b"apply", b"")],
+    ),
+];
+
+/// The block is sound, and has these rows. A value is compared behind the next move.
+fn assert_rows(
+    rt: &impl Abort,
+    alloc: Global,
+    block: &[u8],
+    form: RowForm,
+    rows: &[(&[u8], &[u8])],
+) -> Result<(), Fail>
+    requires short { length block.now ≤ 2 ^ 29 }
+    requires form { HasNoFlags form }
+{
+    let room = KeyRoom::new(alloc)?;
+    match check_block(alloc, block, form) {
+        Ok(count) => {
+            assert_eq!(rt; count as usize, rows.len());
+            assert_walk(rt, BlockIter::start(block, form, room), rows);
+        }
+        Err(refused) => panic!(rt; "refused: {refused:?}"),
+    }
+    Ok(())
+}
+
+/// The walk goes over these rows, and then stands nowhere.
+fn assert_walk(rt: &impl Abort, mut walk: BlockIter, rows: &[(&[u8], &[u8])])
+    requires { (has : List Row) × (place : Option ℕ) × Walks walk has place }
+{
+    let mut there = walk.first();
+    for &(key, value) in rows {
+        if !there {
+            panic!(rt; "no row for {key:?}");
+        }
+        assert_eq!(rt; walk.key(), key);
+        let shown = walk.value();
+        there = walk.next();
+        assert_eq!(rt; shown, value);
+    }
+    assert!(rt; !there);
+}
+
+#[test]
+fn sound_blocks(rt: HostRuntime) -> Result<(), Fail> {
+    for (block, kind, rows) in SOUND {
+        assert!(rt; block.len() <= 1 << 29);
+        assert_rows(&rt, rt.alloc(), block, form_of(kind), rows)?;
+    }
+    Ok(())
+}
+
+// No row; and three names, of which the second shares `app` with the first, and the third is a restart, so it stands
+// whole, at 7 + 6 = 13.
+#[test]
+fn blocks_that_are_built(rt: HostRuntime) -> Result<(), Fail> {
+    let none = BlockBuilder::new(rt.alloc(), RowForm::Names, 16, false)?;
+    assert_eq!(rt; none.size_now(), 8);
+    assert_eq!(rt; none.finish()?.as_slice(), b"\0\0\0\0\x01\0\0\0".as_slice());
+    let mut builder = BlockBuilder::new(rt.alloc(), RowForm::Names, 2, false)?;
+    builder.add(b"app", b"1", &[])?;
+    builder.add(b"apple", b"2", &[])?;
+    builder.add(b"apply", b"3", &[])?;
+    let block = builder.finish()?;
+    let bytes = b"\x00\x03\x01app1\x03\x02\x01le2\x00\x05\x01apply3\0\0\0\0\x0d\0\0\0\x02\0\0\0";
+    assert_eq!(rt; block.as_slice(), bytes.as_slice());
+    assert!(rt; block.len() <= 1 << 29);
+    let rows: [(&[u8], &[u8]); 3] = [(b"app", b"1"), (b"apple", b"2"), (b"apply", b"3")];
+    assert_rows(&rt, rt.alloc(), block.as_slice(), RowForm::Names, &rows)
+}
+
+/// Blocks that are refused, and their first faults.
+static FAULTY: [(&[u8], Kind, BlockFault); 23] = [
+    // Seven bytes; no restart; two restarts, which take 12 bytes; and bit 31, which says that there is a hash part.
+    (b"\0\0\0\x01\0\0\0", Kind::Names, BlockFault::BadFooter),
+    (b"\0\0\0\0\0\0\0\0", Kind::Names, BlockFault::BadFooter),
+    (b"\0\0\0\0\x02\0\0\0", Kind::Names, BlockFault::BadFooter),
+    (b"\0\0\0\0\x01\0\0\x80", Kind::Names, BlockFault::BadFooter),
+    // A length that is spelled longer than it need be; a key of five bytes where there are two; a row that shares a byte
+    // with none before it; two shared bytes where the key before has one; and stored keys of seven bytes.
+    (
+        b"\x80\x00\x01\x00a\0\0\0\0\x01\0\0\0",
+        Kind::Names,
+        BlockFault::BadRow(0),
+    ),
+    (
+        b"\x00\x05\x00ab\0\0\0\0\x01\0\0\0",
+        Kind::Names,
+        BlockFault::BadRow(0),
+    ),
+    (
+        b"\x01\x01\x00a\0\0\0\0\x01\0\0\0",
+        Kind::Names,
+        BlockFault::BadRow(0),
+    ),
+    (
+        b"\x00\x01\x00a\x02\x01\x00b\0\0\0\0\x01\0\0\0",
+        Kind::Names,
+        BlockFault::BadRow(4),
+    ),
+    (
+        b"\x00\x07\x00\x01\0\0\0\0\0\0\0\0\0\0\x01\0\0\0",
+        Kind::Entries,
+        BlockFault::BadRow(0),
+    ),
+    (
+        b"\x00\x07\x02\x01\0\0\0\0\0\0\x00\x15\0\0\0\0\x01\0\0\0",
+        Kind::Index,
+        BlockFault::BadRow(0),
+    ),
+    // A tag of the kind 3; and the same in a block whose one restart is 1.
+    (
+        b"\x00\x08\x00\x03\0\0\0\0\0\0\0\0\0\0\0\x01\0\0\0",
+        Kind::Entries,
+        BlockFault::BadKind(0),
+    ),
+    (
+        b"\x00\x08\x00\x03\0\0\0\0\0\0\0\x01\0\0\0\x01\0\0\0",
+        Kind::Entries,
+        BlockFault::BadKind(0),
+    ),
+    // A varint that doesn't end; and the handle and one more byte.
+    (
+        b"\x00\x08\x02\x01\0\0\0\0\0\0\0\x80\x00\0\0\0\0\x01\0\0\0",
+        Kind::Index,
+        BlockFault::BadHandle(0),
+    ),
+    (
+        b"\x00\x08\x03\x01\0\0\0\0\0\0\0\x00\x15\x00\0\0\0\0\x01\0\0\0",
+        Kind::Index,
+        BlockFault::BadHandle(0),
+    ),
+    // A key twice, and b before a; the second row begins at 4.
+    (
+        b"\x00\x01\x00a\x00\x01\x00a\0\0\0\0\x01\0\0\0",
+        Kind::Names,
+        BlockFault::Disorder(4),
+    ),
+    (
+        b"\x00\x01\x00b\x00\x01\x00a\0\0\0\0\x01\0\0\0",
+        Kind::Names,
+        BlockFault::Disorder(4),
+    ),
+    // The entries of a at the sequence numbers 1 and 2, of which the newer comes first. The second begins at 12.
+    (
+        b"\x00\x09\x00a\x01\x01\0\0\0\0\0\0\x02\x07\x00\x02\0\0\0\0\0\0\0\0\0\0\x01\0\0\0",
+        Kind::Entries,
+        BlockFault::Disorder(12),
+    ),
+    // The restart 1 in a block without rows, and before the rows a, ab and b; the restart 0 twice.
+    (
+        b"\x01\0\0\0\x01\0\0\0",
+        Kind::Entries,
+        BlockFault::BadRestart(0),
+    ),
+    (
+        b"\x00\x01\x00a\x01\x01\x00b\x00\x01\x00b\x01\0\0\0\x01\0\0\0",
+        Kind::Names,
+        BlockFault::BadRestart(0),
+    ),
+    (
+        b"\0\0\0\0\0\0\0\0\x02\0\0\0",
+        Kind::Names,
+        BlockFault::BadRestart(1),
+    ),
+    // A second restart that is 0 again, that is within a row, and that is at a row that shares.
+    (
+        b"\x00\x01\x00a\x01\x01\x00b\x00\x01\x00b\0\0\0\0\0\0\0\0\x02\0\0\0",
+        Kind::Names,
+        BlockFault::BadRestart(1),
+    ),
+    (
+        b"\x00\x01\x00a\x01\x01\x00b\x00\x01\x00b\0\0\0\0\x02\0\0\0\x02\0\0\0",
+        Kind::Names,
+        BlockFault::BadRestart(1),
+    ),
+    (
+        b"\x00\x01\x00a\x01\x01\x00b\x00\x01\x00b\0\0\0\0\x04\0\0\0\x02\0\0\0",
+        Kind::Names,
+        BlockFault::BadRestart(1),
+    ),
+];
+
+#[test]
+fn faulty_blocks(rt: HostRuntime) {
+    for (block, kind, fault) in FAULTY {
+        assert!(rt; block.len() <= 1 << 29);
+        let found = check_block(rt.alloc(), block, form_of(kind));
+        assert_eq!(rt; found, Err(Refused::Cause(fault)), "at {block:?}");
+    }
+}

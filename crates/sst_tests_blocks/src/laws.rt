@@ -1,0 +1,43 @@
+//! The laws take no value and answer none: that they can be called is all that a test can show.
+use sst_bbt_spec::{
+    a_file_stands_for_one_list, a_file_that_stands_is_separated, a_key_between_separates,
+    a_separated_file_stands, the_way_is_the_lists, what_a_file_stands_for_is_ordered,
+};
+use sst_block::{
+    a_block_has_one_list_of_rows, chosen_block_stands_for_its_rows, each_group_begins_whole,
+    first_fault_is_first, reading_finds_exactly_the_rows,
+};
+use sst_meta::{
+    a_file_loads_as_it_says, a_footer_is_read, a_footer_reads_back, a_meta_fault_is_shown,
+    a_name_has_one_value, properties_have_one_restart, what_is_put_is_loaded,
+};
+
+#[test]
+fn of_blocks(_rt: HostRuntime) {
+    chosen_block_stands_for_its_rows();
+    each_group_begins_whole();
+    reading_finds_exactly_the_rows();
+    a_block_has_one_list_of_rows();
+    first_fault_is_first();
+}
+
+#[test]
+fn of_what_a_file_says(_rt: HostRuntime) {
+    a_name_has_one_value();
+    properties_have_one_restart();
+    a_footer_reads_back();
+    a_footer_is_read();
+    a_file_loads_as_it_says();
+    a_meta_fault_is_shown();
+    what_is_put_is_loaded();
+}
+
+#[test]
+fn of_what_a_file_stands_for(_rt: HostRuntime) {
+    the_way_is_the_lists();
+    what_a_file_stands_for_is_ordered();
+    a_file_that_stands_is_separated();
+    a_separated_file_stands();
+    a_key_between_separates();
+    a_file_stands_for_one_list();
+}

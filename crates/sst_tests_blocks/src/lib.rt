@@ -1,0 +1,26 @@
+//! Tests of blocks, and of what a table file says of itself at its end.
+//!
+//! They call what these crates offer to all, each call once with memory at hand. `sst_tests_bytes` says what such tests
+//! show. Expected values come from the public documents, from independent programs and from counts by hand, never from this
+//! library.
+//!
+//! - [`blocks`]: blocks that are built, checked and walked, and what is wrong with some.
+//! - [`properties`]: names and their values in a block.
+//! - [`footers`]: the ends of files.
+//! - [`loading`]: what files say of themselves, and what is wrong with some.
+//! - [`lengths`]: the longest files that are loaded.
+//! - [`laws`]: the laws of these crates, and of what a file stands for.
+#![tactic(auto)]
+
+#[cfg(test)]
+mod blocks;
+#[cfg(test)]
+mod footers;
+#[cfg(test)]
+mod laws;
+#[cfg(test)]
+mod lengths;
+#[cfg(test)]
+mod loading;
+#[cfg(test)]
+mod properties;
