@@ -7,3 +7,4 @@ pub mod SeparatorOrder
 pub mod Stands
 pub mod UpToSeparator
 pub mod WayLaws
+pub mod RowsOf

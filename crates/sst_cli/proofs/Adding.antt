@@ -1,13 +1,12 @@
 -- What the loop over the lines of an input keeps.
 use Rattle.std.proofs.Common.{◌≡◌, ℕ, ◌-◌, ◌*◌, ◌^◌, ◌<◌, ◌≤◌, List, [], ◌∷◌, ◌++◌, length, Option, refl, arith}
 use Rattle.sst_key.specs.declared.entries.Entry.{Entry}
-use Rattle.sst_key.specs.Entry.{weight, entry_weight}
+use Rattle.sst_key.specs.Entry.{weight}
 use Rattle.std.proofs.lemmas.Bool.{lt-ltb}
-use Rattle.std.proofs.lemmas.List.Sums.{sum_by-cons}
-use Rattle.sst_cli.specs.declared.bbt_writer.BbtWriter.{BbtWriter}
-use Rattle.sst_cli.specs.After.{After}
+use Rattle.sst_bbt_write.specs.declared.bbt_writer.BbtWriter.{BbtWriter}
+use Rattle.sst_bbt_write.specs.After.{After}
 use Rattle.sst_cli.specs.Reading.{read_line}
-use Rattle.sst_cli.proofs.Rows.{weight-append}
+use Rattle.sst_bbt_write.proofs.Rows.{weight-append}
 use Rattle.sst_cli.proofs.ReadFrom.{IsLimited}
 use Rattle.sst_cli.proofs.ReadingOn.{IsReadTo}
 use Rattle.sst_cli.proofs.Taken.{IsPast}
@@ -26,11 +25,6 @@ pub record Adding (start left : Option (List ℕ)) (held : List ℕ) (first writ
   pub short : length held ≤ 65536
   pub counts : faults ≡ before
   pub options : writer.options ≡ first.options
-
--- each entry weighs 64 at least
-pub weight-many : (entries : List Entry) → 64 * length entries ≤ weight entries
-weight-many [] = omega arith
-weight-many (e ∷ rest) = omega (arith, weight-many rest, sum_by-cons entry_weight e rest)
 
 -- a writer weighs less than the limit still leaves, by more after each entry
 pub weight-falls : (writer next : BbtWriter) (entries : List Entry) (e : Entry) (bytes more : List ℕ) → After writer entries bytes

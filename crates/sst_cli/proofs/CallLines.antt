@@ -7,15 +7,15 @@ use Rattle.hex.specs.Hex.{IsBytes}
 use Rattle.sst_key.specs.declared.calls.Target.{Target}
 use Rattle.sst_key.specs.declared.calls.Call.{Call}
 use Rattle.sst_key.specs.declared.calls.Call.TheVariants.{Get, First, Last, Seek, SeekForPrev, Next, Prev}
-use Rattle.sst_cli.specs.declared.refusal.Refusal.{Refusal}
-use Rattle.sst_cli.specs.declared.refusal.Reason.TheVariants as why
-use Rattle.sst_cli.specs.declared.reading.InputStop.{InputStop}
-use Rattle.sst_cli.specs.declared.reading.InputStop.TheVariants as stop
-use Rattle.sst_cli.specs.Texts.{cut, bytes_field, seq_field}
-use Rattle.sst_cli.specs.CallText.{target_of_user, target_of, plain_call, call_to, call_of_parts, call_of_line, target_in, IsTargetInLimits, IsInLimits, IsOfBytes}
+use Rattle.sst_cli.specs.declared.input.refusal.Refusal.{Refusal}
+use Rattle.sst_cli.specs.declared.input.refusal.Reason.TheVariants as why
+use Rattle.sst_cli.specs.declared.input.entries.InputStop.{InputStop}
+use Rattle.sst_cli.specs.declared.input.entries.InputStop.TheVariants as stop
+use Rattle.sst_text.specs.Texts.{cut, bytes_field, seq_field}
+use Rattle.sst_text.specs.CallText.{target_of_user, target_of, plain_call, call_to, call_of_parts, call_of_line, target_in, IsTargetInLimits, IsInLimits, IsOfBytes}
 use Rattle.sst_cli.specs.Reading.{read_call, by_call, refused_at}
 use Rattle.sst_cli.specs.ReadingResult.{IsRefused}
-use Rattle.sst_cli.proofs.EntryLines.{seq_field-some, bytes_field-some}
+use Rattle.sst_text.proofs.EntryLines.{seq_field-some, bytes_field-some}
 use Rattle.sst_cli.proofs.ReadFrom.{IsLimited}
 
 -- a line past its limit is refused for that, whatever calls came before

@@ -2,7 +2,7 @@
 use Rattle.std.proofs.Common.{◌≡◌, ℕ, ◌≤◌, List, [], ◌∷◌, ◌++◌, length, Option}
 use Rattle.std.proofs.lemmas.List.Elements.{All-push}
 use Rattle.sst_key.specs.declared.calls.Call.{Call}
-use Rattle.sst_cli.specs.CallText.{IsInLimits, AreInLimits}
+use Rattle.sst_text.specs.CallText.{IsInLimits, AreInLimits}
 use Rattle.sst_cli.specs.Reading.{read_call}
 use Rattle.sst_cli.proofs.ReadingOn.{IsReadTo}
 use Rattle.sst_cli.proofs.Taken.{IsPast}

@@ -12,22 +12,22 @@ use Rattle.sst_device.specs.Folder.{Files}
 use Rattle.sst_cli.specs.Words.{out_name, calls_name}
 use Rattle.sst_bbt_spec.proofs.Stands.{opens-seqs}
 use Rattle.sst_cli.proofs.BlocksOnce.{row_blocks-one, stands-text}
-use Rattle.sst_cli.proofs.BlocksOpened.{blocks_read-opens, blocks_read-found}
-use Rattle.sst_cli.specs.TableBlocks.{row_blocks_of}
+use Rattle.sst_bbt_read.proofs.BlocksOpened.{blocks_read-opens, blocks_read-found}
+use Rattle.sst_bbt_read.specs.TableBlocks.{row_blocks_of}
 use Rattle.sst_bbt_spec.specs.Way.{IndexedBlock}
-use Rattle.sst_cli.proofs.FaultsShown.{blocks_read-fault}
+use Rattle.sst_bbt_read.proofs.FaultsShown.{blocks_read-fault}
 use Rattle.sst_meta.proofs.FootersRead.{are_bytes-drop}
 use Rattle.sst_cli.specs.CallsRun.{IsFileText, IsAnswered, Answered, AnsweredByWay, IsDamaged, IsAnswersText, IsInputText, IsCallsText, file_status}
-use Rattle.sst_cli.specs.FaultText.{fault_text}
-use Rattle.sst_cli.specs.Opening.{RowBlock, blocks_read}
+use Rattle.sst_bbt_read.specs.FaultText.{fault_text}
+use Rattle.sst_bbt_read.specs.Opening.{RowBlock, blocks_read}
 use Rattle.sst_cli.specs.Printed.{IsPrinted}
 use Rattle.sst_cli.specs.Reading.{read_calls}
 use Rattle.sst_cli.specs.Replies.{way_text}
 use Rattle.sst_cli.specs.Refusals.{refusal_text}
 use Rattle.sst_cli.specs.Run.{IsFault}
-use Rattle.sst_cli.specs.declared.bbt_fault.BbtFault.{BbtFault}
-use Rattle.sst_cli.specs.declared.refusal.Refusal.{Refusal}
-use Rattle.sst_cli.specs.declared.program.Status.{Status}
+use Rattle.sst_bbt_read.specs.declared.bbt_fault.BbtFault.{BbtFault}
+use Rattle.sst_cli.specs.declared.input.refusal.Refusal.{Refusal}
+use Rattle.sst_cli.specs.declared.status.Status.{Status}
 
 -- the text of a file that reads so, where it is told
 pub file_text_is : (file : Option (List ℕ)) (read : Result (List RowBlock) BbtFault) (calls : List Call) (text : List ℕ)

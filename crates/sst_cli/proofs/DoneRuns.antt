@@ -8,13 +8,13 @@ use Rattle.sst_bbt_spec.specs.Way.{IndexedBlock}
 use Rattle.sst_device.specs.Folder.{Files}
 use Rattle.sst_cli.proofs.CallsPrinted.{answered_way}
 use Rattle.sst_cli.specs.CallsRun.{IsAnswered, AnsweredByWay}
-use Rattle.sst_cli.specs.Opening.{blocks_read}
+use Rattle.sst_bbt_read.specs.Opening.{blocks_read}
 use Rattle.sst_cli.specs.Printed.{Prints}
 use Rattle.sst_cli.specs.Run.{IsFault, Wrote}
 use Rattle.sst_cli.specs.Words.{WriteLine}
-use Rattle.sst_cli.specs.declared.refusal.Refusal.{Refusal}
-use Rattle.sst_cli.specs.declared.program.Status.{Status}
-use Rattle.sst_cli.specs.declared.program.Status.TheVariants.{Done, Input, Device, Memory}
+use Rattle.sst_cli.specs.declared.input.refusal.Refusal.{Refusal}
+use Rattle.sst_cli.specs.declared.status.Status.{Status}
+use Rattle.sst_cli.specs.declared.status.Status.TheVariants.{Done, Input, Device, Memory}
 
 -- Done is no fault
 done_no_fault : (result : Status) → result ≡ Done → IsFault result → ⊥

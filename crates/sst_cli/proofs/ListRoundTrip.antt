@@ -11,47 +11,17 @@ use Rattle.hex.specs.Hex.{IsBytes, lower_digits}
 use Rattle.hex.proofs.HexLemmas.{length-encode_with}
 use Rattle.sst_key.specs.declared.entries.Entry.{Entry}
 use Rattle.sst_key.specs.Entry.{IsOrdered, weight, entry_weight}
-use Rattle.sst_cli.specs.Texts.{cut, entry_of_line}
-use Rattle.sst_cli.specs.EntryText.{hex_text, kind_letter, entry_line, lines_text, AreBytes}
-use Rattle.sst_cli.specs.Reasons.{is_after, reason}
+use Rattle.sst_text.specs.Texts.{cut, entry_of_line}
+use Rattle.sst_text.specs.EntryText.{hex_text, kind_letter, entry_line, lines_text, AreBytes}
+use Rattle.sst_bbt_write.specs.Reasons.{is_after, reason}
 use Rattle.sst_cli.specs.Reading.{by_reason, by_entry, read_line, read_from, read_input}
-use Rattle.sst_cli.specs.Written.{IsInLimits, Fits}
-use Rattle.sst_cli.proofs.FieldBytes.{Avoids, IsStop, hex_text-avoids, decimal-avoids, letter_text-avoids, cut-front}
-use Rattle.sst_cli.proofs.LineRoundTrip.{entry_of_line-entry_line}
+use Rattle.sst_bbt_write.specs.Written.{IsInLimits, Fits}
+use Rattle.sst_text.proofs.LineEnds.{entry_line-cut, length-hex_text, length-blank}
+use Rattle.sst_text.proofs.LineRoundTrip.{entry_of_line-entry_line}
 use Rattle.sst_cli.proofs.ReadFrom.{read_from-item, read_from-end}
-use Rattle.sst_cli.proofs.Rows.{ComesAfter, weight-append, IsOrdered-last}
-
--- ---- the line of an entry has no line end
-
--- a blank between two texts is no line end
-pub blank-avoids : (front rest : List ℕ) → Avoids 10 front → Avoids 10 rest → Avoids 10 (front ++ (32 ∷ rest))
-blank-avoids front rest before after =
-    All-append (λ c. c ≢ 10) front (32 ∷ rest) before (All-cons (λ c. c ≢ 10) 32 rest (λ e. omega arith) after)
-
-line-avoids : (e : Entry) → IsBytes e.user → IsBytes e.value → e.seq < 2 ^ 56 → Avoids 10 (entry_line e)
-line-avoids e user value seq =
-    let letter = kind_letter e.kind ∷ [] in
-    let last = letter ++ (32 ∷ hex_text e.value) in
-    let stop : IsStop 10 = (omega arith, refl) in
-    let fits : e.seq < 2 ^ 64 = omega arith in
-    blank-avoids (hex_text e.user) (decimal e.seq ++ (32 ∷ last)) (hex_text-avoids 10 e.user stop user)
-    (blank-avoids (decimal e.seq) last (decimal-avoids 10 e.seq stop fits)
-    (blank-avoids letter (hex_text e.value) (letter_text-avoids 10 e.kind stop) (hex_text-avoids 10 e.value stop value)))
-
--- the text after a line of an entry begins after its line end
-pub entry_line-cut : (e : Entry) (text : List ℕ) → IsBytes e.user → IsBytes e.value → e.seq < 2 ^ 56
-    → cut 10 ((entry_line e ++ 10 ∷ []) ++ text) ≡ Some (entry_line e, text)
-entry_line-cut e text user value seq =
-    ap (cut 10) (append_assoc (entry_line e) (10 ∷ []) text) ∙ cut-front 10 (entry_line e) text (line-avoids e user value seq)
+use Rattle.sst_bbt_write.proofs.Rows.{ComesAfter, weight-append, IsOrdered-last}
 
 -- ---- the line of an entry is short
-
-pub length-hex_text : (bytes : List ℕ) → length (hex_text bytes) ≤ 2 * length bytes + 1
-length-hex_text [] = omega arith
-length-hex_text (b ∷ rest) = omega (arith, length-encode_with lower_digits (b ∷ rest))
-
-pub length-blank : (front rest : List ℕ) → length (front ++ (32 ∷ rest)) ≡ length front + length rest + 1
-length-blank front rest = omega (arith, length-append front (32 ∷ rest))
 
 pub length-entry_line : (e : Entry) → IsInLimits e → length (entry_line e) ≤ 40000000
 length-entry_line e limits =

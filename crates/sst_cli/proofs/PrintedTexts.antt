@@ -11,9 +11,9 @@ use Rattle.sst_cli.specs.Refusals.{refusal_text}
 use Rattle.sst_cli.specs.Run.{IsWriteText, IsFault, HoldsWritten, Wrote, text_for, done_text}
 use Rattle.sst_cli.specs.Printed.{IsPrinted, Prints}
 use Rattle.sst_cli.specs.Words.{WriteLine, write_line, out_name}
-use Rattle.sst_cli.specs.declared.refusal.Refusal.{Refusal}
-use Rattle.sst_cli.specs.declared.program.Status.{Status}
-use Rattle.sst_cli.specs.declared.program.Status.TheVariants.{Done, Input, Device}
+use Rattle.sst_cli.specs.declared.input.refusal.Refusal.{Refusal}
+use Rattle.sst_cli.specs.declared.status.Status.{Status}
+use Rattle.sst_cli.specs.declared.status.Status.TheVariants.{Done, Input, Device}
 
 -- a printed text is whole, or a fault cut it short
 pub some_printed : (result status : Status) (text : List ℕ) (old new : Option (List ℕ)) (before now : ℕ)

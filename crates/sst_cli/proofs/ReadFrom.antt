@@ -3,14 +3,15 @@ use Rattle.std.proofs.Common.{◌≡◌, ℕ, ◌+◌, ◌<◌, ◌≤◌, ◌==
 use Rattle.std.specs.Option.{option_map}
 use Rattle.std.proofs.lemmas.Bool.{le-ltb, lt-ltb}
 use Rattle.std.proofs.lemmas.List.{append-nil}
-use Rattle.sst_cli.specs.declared.refusal.Reason.{Reason}
-use Rattle.sst_cli.specs.declared.refusal.Reason.TheVariants as why
-use Rattle.sst_cli.specs.declared.refusal.Refusal.{Refusal}
-use Rattle.sst_cli.specs.Texts.{cut}
-use Rattle.sst_cli.specs.Lines.{BeginsLong}
+use Rattle.sst_cli.specs.declared.input.refusal.Reason.{Reason}
+use Rattle.sst_cli.specs.declared.input.refusal.Reason.TheVariants as why
+use Rattle.sst_cli.specs.declared.input.refusal.Refusal.{Refusal}
+use Rattle.sst_text.specs.Texts.{cut}
+use Rattle.sst_text.specs.Lines.{BeginsLong}
 use Rattle.sst_cli.specs.NextLine.{IsUnended}
 use Rattle.sst_cli.specs.Reading.{result_match, onto_first, pieces_of, refused_at, read_last, read_pieces, read_from}
-use Rattle.sst_cli.proofs.Cut.{cut-parts}
+use Rattle.sst_text.proofs.Cut.{cut-parts}
+use Rattle.sst_text.proofs.PastLine.{none_first}
 
 cond_pieces : (t : Bool) (b : ℕ) (pieces : List (List ℕ)) (first : List ℕ) (others : List (List ℕ)) → pieces ≡ first ∷ others
     → (f : List ℕ) × ((o : List (List ℕ)) × (cond t ([] ∷ pieces) (onto_first b pieces) ≡ f ∷ o))
@@ -31,14 +32,6 @@ onto_front-first : (front first : List ℕ) (others : List (List ℕ)) → onto_
 unfolding onto_front
 onto_front-first [] first others = refl
 onto_front-first (x ∷ front) first others = ap (onto_first x) (onto_front-first front first others)
-
--- the first byte is no line end, and none is among the others
-pub none_first : (x : ℕ) (front : List ℕ) → cut 10 (x ∷ front) ≡ None → ((x == 10) ≡ false) × (cut 10 front ≡ None)
-none_first x front none =
-    elim (x == 10) as (λ t. (x == 10) ≡ t → ◌≡◌ {A = Option (List ℕ × List ℕ)} (cond t (Some ([], front)) (option_map (λ (parts : List ℕ × List ℕ). (x ∷ parts.0, parts.1)) (cut 10 front))) None → ((x == 10) ≡ false) × (cut 10 front ≡ None)) [
-      | true ↦ λ is e. absurd cc
-      | false ↦ λ is e. (is, elim (cut 10 front) as (λ o. ◌≡◌ {A = Option (List ℕ × List ℕ)} (option_map (λ (parts : List ℕ × List ℕ). (x ∷ parts.0, parts.1)) o) None → o ≡ None) [ None ↦ λ _. refl | Some p ↦ λ e. absurd cc ] e)
-    ] refl none
 
 pieces_of-front : (front text : List ℕ) → cut 10 front ≡ None → pieces_of (front ++ text) ≡ onto_front front (pieces_of text)
 unfolding onto_front

@@ -3,14 +3,14 @@ use Rattle.std.proofs.Common.{◌≡◌, ℕ, ◌≤◌, List, [], ◌∷◌, �
 use Rattle.std.proofs.lemmas.Bool.{le-ltb}
 use Rattle.sst_key.specs.declared.entries.Entry.{Entry}
 use Rattle.sst_key.specs.declared.faults.WriteFault.{WriteFault}
-use Rattle.sst_cli.specs.declared.refusal.Refusal.{Refusal}
-use Rattle.sst_cli.specs.declared.refusal.Reason.TheVariants as why
-use Rattle.sst_cli.specs.declared.reading.InputStop.{InputStop}
-use Rattle.sst_cli.specs.declared.reading.InputStop.TheVariants as stop
-use Rattle.sst_cli.specs.declared.bbt_writer.BbtWriter.{BbtWriter}
-use Rattle.sst_cli.specs.After.{After}
-use Rattle.sst_cli.specs.Reasons.{reason}
-use Rattle.sst_cli.specs.Texts.{entry_of_line}
+use Rattle.sst_cli.specs.declared.input.refusal.Refusal.{Refusal}
+use Rattle.sst_cli.specs.declared.input.refusal.Reason.TheVariants as why
+use Rattle.sst_cli.specs.declared.input.entries.InputStop.{InputStop}
+use Rattle.sst_cli.specs.declared.input.entries.InputStop.TheVariants as stop
+use Rattle.sst_bbt_write.specs.declared.bbt_writer.BbtWriter.{BbtWriter}
+use Rattle.sst_bbt_write.specs.After.{After}
+use Rattle.sst_bbt_write.specs.Reasons.{reason}
+use Rattle.sst_text.specs.Texts.{entry_of_line}
 use Rattle.sst_cli.specs.Reading.{read_line, by_entry, by_reason, refused_at}
 use Rattle.sst_cli.specs.ReadingResult.{HasAdded, IsRefused}
 

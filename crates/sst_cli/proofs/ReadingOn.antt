@@ -2,14 +2,14 @@
 use Rattle.std.proofs.Common.{◌≡◌, inl, inr, ℕ, ◌+◌, ◌<◌, List, [], ◌∷◌, ◌++◌, length, take, drop, Option, Some, None, Ok, Err, refl, sym, ap, ◌∙◌, subst, length-append}
 use Rattle.std.specs.Option.{option_map}
 use Rattle.std.specs.Io.KnownBytes.{prepend_known}
-use Rattle.sst_cli.specs.declared.refusal.Refusal.{Refusal}
-use Rattle.sst_cli.specs.declared.refusal.Reason.{Reason}
-use Rattle.sst_cli.specs.Texts.{cut}
-use Rattle.sst_cli.specs.Lines.{IsRead}
+use Rattle.sst_cli.specs.declared.input.refusal.Refusal.{Refusal}
+use Rattle.sst_cli.specs.declared.input.refusal.Reason.{Reason}
+use Rattle.sst_text.specs.Texts.{cut}
+use Rattle.sst_text.specs.Lines.{IsRead}
 use Rattle.sst_cli.specs.NextLine.{IsNext, HasNoLine}
 use Rattle.sst_cli.specs.Reading.{refused_at, read_from}
 use Rattle.sst_cli.specs.ReadingResult.{IsRefused}
-use Rattle.sst_cli.proofs.Cut.{cut-append_some, cut-length}
+use Rattle.sst_text.proofs.Cut.{cut-append_some, cut-length}
 use Rattle.sst_cli.proofs.ReadFrom.{Says, IsLimited, read_from-item, read_from-refused, read_from-long, read_from-unended, read_from-end}
 
 -- reading the whole input is reading what is left after these items

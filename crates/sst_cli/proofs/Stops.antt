@@ -2,8 +2,8 @@
 use Rattle.std.proofs.Common.{◌≡◌, ℕ, Result, Err, sym, ap, ◌∙◌}
 use Rattle.sst_device.specs.declared.folder.DevStop.{DevStop}
 use Rattle.sst_device.specs.declared.folder.DevStop.TheVariants.{Failed}
-use Rattle.sst_cli.specs.declared.reading.InputStop.{InputStop}
-use Rattle.sst_cli.specs.declared.reading.InputStop.TheVariants.{Device}
+use Rattle.sst_cli.specs.declared.input.entries.InputStop.{InputStop}
+use Rattle.sst_cli.specs.declared.input.entries.InputStop.TheVariants.{Device}
 
 -- a stop that was passed on as a failure was one
 pub given_stop : (result : Result ℕ InputStop) (passed : InputStop) (stop : DevStop) → result ≡ Err passed → passed ≡ Device stop

@@ -3,61 +3,12 @@ use Rattle.std.proofs.Common.{◌≡◌, inl, inr, ℕ, zero, suc, ◌+◌, ◌�
 use Rattle.std.specs.Option.{option_map}
 use Rattle.std.specs.Io.KnownBytes.{prepend_known}
 use Rattle.std.proofs.lemmas.List.{append-nil}
-use Rattle.sst_cli.specs.declared.refusal.Refusal.{Refusal}
-use Rattle.sst_cli.specs.Texts.{cut}
+use Rattle.sst_cli.specs.declared.input.refusal.Refusal.{Refusal}
+use Rattle.sst_text.specs.Texts.{cut}
 use Rattle.sst_cli.specs.NextLine.{IsNext, HasNoLine}
-use Rattle.sst_cli.specs.Taken.{past_line, past_lines, IsTakenTo}
-use Rattle.sst_cli.proofs.Cut.{cut-parts, cut-append_some}
-use Rattle.sst_cli.proofs.ReadFrom.{none_first}
-
--- ---- past one line
-
--- some bytes without a line end don't count
-past_line-after : (front text : List ℕ) → cut 10 front ≡ None → past_line (front ++ text) ≡ past_line text
-past_line-after [] text none = refl
-past_line-after (x ∷ front) text none =
-    let parts = none_first x front none in
-    rw parts.0 (past_line-after front text parts.1)
-
-past_line-none : (text : List ℕ) → cut 10 text ≡ None → past_line text ≡ []
-past_line-none text none = ap past_line (sym (append-nil text)) ∙ past_line-after text [] none
-
-past_line-found : (text line after : List ℕ) → cut 10 text ≡ Some (line, after) → past_line text ≡ after
-past_line-found text line after found =
-    let parts = cut-parts 10 text line after found in
-    ap past_line parts.0 ∙ past_line-after line (10 ∷ after) parts.1
-
-past_line-shorter : (text : List ℕ) → length (past_line text) ≤ length text
-past_line-shorter [] = omega arith
-past_line-shorter (x ∷ text) =
-    elim (x == 10) as (λ t. length (cond t text (past_line text)) ≤ suc (length text)) [
-      | true ↦ omega arith
-      | false ↦ omega (arith, past_line-shorter text)
-    ]
-
-past_line-append : (front rest : List ℕ) → length (past_line (front ++ rest)) ≤ length (past_line front) + length rest
-past_line-append [] rest = omega (arith, past_line-shorter rest)
-past_line-append (x ∷ front) rest =
-    elim (x == 10) as (λ t. length (cond t (front ++ rest) (past_line (front ++ rest))) ≤ length (cond t front (past_line front)) + length rest) [
-      | true ↦ omega (arith, length-append front rest)
-      | false ↦ past_line-append front rest
-    ]
-
--- ---- what was read and not passed
-
--- no line ends in it
-pub near_none : (bytes : List ℕ) → cut 10 bytes ≡ None → length (past_line bytes) ≤ 65536
-near_none bytes none = rw (past_line-none bytes none) (omega arith)
-
--- no line ends in it but in the last piece
-pub near_piece : (bytes piece all : List ℕ) → cut 10 bytes ≡ None → all ≡ bytes ++ piece → length piece ≤ 65536 → length (past_line all) ≤ 65536
-near_piece bytes piece all none is small =
-    let past : past_line all ≡ past_line piece = ap past_line is ∙ past_line-after bytes piece none in
-    rw past (omega (arith, past_line-shorter piece))
-
--- no more than a piece
-pub near_short : (bytes : List ℕ) → length bytes ≤ 65536 → length (past_line bytes) ≤ 65536
-near_short bytes short = omega (arith, past_line-shorter bytes)
+use Rattle.sst_text.specs.Taken.{past_line, past_lines, IsTakenTo}
+use Rattle.sst_text.proofs.Cut.{cut-append_some}
+use Rattle.sst_text.proofs.PastLine.{past_line-found, past_line-append, near_piece, near_none}
 
 -- the line that was found is passed
 pub near_passed : (unread : List ℕ) (left : Option (List ℕ)) (n : ℕ) → IsNext (Some n) unread left → length (past_line unread) ≤ 65536

@@ -6,20 +6,20 @@ use Rattle.hex.specs.Hex.{IsBytes}
 use Rattle.sst_key.specs.declared.calls.Call.{Call}
 use Rattle.sst_key.specs.declared.entries.Entry.{Entry}
 use Rattle.sst_key.specs.declared.faults.WriteFault.{WriteFault}
-use Rattle.sst_cli.specs.declared.refusal.Reason.{Reason}
-use Rattle.sst_cli.specs.declared.refusal.Reason.TheVariants as why
-use Rattle.sst_cli.specs.declared.refusal.Refusal.{Refusal}
-use Rattle.sst_cli.specs.CallText.{call_of_line, IsInLimits, AreInLimits, IsOfBytes, AreOfBytes}
-use Rattle.sst_cli.specs.EntryText.{AreBytes}
+use Rattle.sst_cli.specs.declared.input.refusal.Reason.{Reason}
+use Rattle.sst_cli.specs.declared.input.refusal.Reason.TheVariants as why
+use Rattle.sst_cli.specs.declared.input.refusal.Refusal.{Refusal}
+use Rattle.sst_text.specs.CallText.{call_of_line, IsInLimits, AreInLimits, IsOfBytes, AreOfBytes}
+use Rattle.sst_text.specs.EntryText.{AreBytes}
 use Rattle.sst_cli.specs.Reading.{by_reason, by_entry, by_call, read_line, read_call, read_last, read_pieces, read_from, read_input, read_calls, pieces_of, refused_at, result_match}
-use Rattle.sst_cli.specs.Reasons.{reason}
-use Rattle.sst_cli.specs.Texts.{entry_of_line}
-use Rattle.sst_cli.specs.Written.{Fits}
-use Rattle.sst_cli.proofs.Added.{Fits-next}
+use Rattle.sst_bbt_write.specs.Reasons.{reason}
+use Rattle.sst_text.specs.Texts.{entry_of_line}
+use Rattle.sst_bbt_write.specs.Written.{Fits}
+use Rattle.sst_bbt_write.proofs.Added.{Fits-next}
 use Rattle.sst_cli.proofs.CallLines.{call_of_line-some, call_of_line-bytes}
-use Rattle.sst_cli.proofs.EntryLines.{entry_of_line-seq, entry_of_line-bytes}
+use Rattle.sst_text.proofs.EntryLines.{entry_of_line-seq, entry_of_line-bytes}
 use Rattle.sst_cli.proofs.ReadFrom.{Says}
-use Rattle.sst_cli.proofs.Rows.{Fits-nil}
+use Rattle.sst_bbt_write.proofs.Rows.{Fits-nil}
 
 same_ok : {A B : Type 0} (x y : A) → ◌≡◌ {A = Result A B} (Ok x) (Ok y) → x ≡ y
 same_ok x y e = cc

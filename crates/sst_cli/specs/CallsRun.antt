@@ -5,20 +5,20 @@ use Rattle.sst_key.specs.declared.entries.Entry.{Entry}
 use Rattle.sst_key.specs.declared.calls.Call.{Call}
 use Rattle.sst_bbt_spec.specs.Rows.{HasSeq}
 use Rattle.sst_device.specs.Folder.{Files, file_of, misses}
-use Rattle.sst_cli.specs.FaultText.{fault_text}
-use Rattle.sst_cli.specs.Opening.{RowBlock, blocks_read}
+use Rattle.sst_bbt_read.specs.FaultText.{fault_text}
+use Rattle.sst_bbt_read.specs.Opening.{RowBlock, blocks_read}
 use Rattle.sst_cli.specs.Reading.{read_input, read_calls}
 use Rattle.sst_cli.specs.Refusals.{refusal_text}
 use Rattle.sst_cli.specs.Replies.{answers_text, way_text}
 use Rattle.sst_cli.specs.Run.{IsWriteText, usage_text}
-use Rattle.sst_cli.specs.Shows.{Shows}
-use Rattle.sst_cli.specs.TableBlocks.{row_blocks_of}
+use Rattle.sst_bbt_read.specs.Shows.{Shows}
+use Rattle.sst_bbt_read.specs.TableBlocks.{row_blocks_of}
 use Rattle.sst_bbt_spec.specs.Way.{IndexedBlock, joined}
 use Rattle.sst_cli.specs.Words.{out_name, calls_name}
-use Rattle.sst_cli.specs.declared.bbt_fault.BbtFault.{BbtFault}
-use Rattle.sst_cli.specs.declared.refusal.Refusal.{Refusal}
-use Rattle.sst_cli.specs.declared.program.Status.{Status}
-use Rattle.sst_cli.specs.declared.program.Status.TheVariants.{Done, File}
+use Rattle.sst_bbt_read.specs.declared.bbt_fault.BbtFault.{BbtFault}
+use Rattle.sst_cli.specs.declared.input.refusal.Refusal.{Refusal}
+use Rattle.sst_cli.specs.declared.status.Status.{Status}
+use Rattle.sst_cli.specs.declared.status.Status.TheVariants.{Done, File}
 
 -- the text that a file calls for which reads so: the answers by the way of its blocks, or the line of its fault
 abbrev pub IsFileText : Result (List RowBlock) BbtFault → List Call → List ℕ → Type 0

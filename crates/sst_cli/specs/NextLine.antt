@@ -1,9 +1,9 @@
 -- The next line of an input, and why there is none that can be read.
 use Rattle.std.specs.Prelude.{◌≡◌, ◌⊎◌, ℕ, ◌<◌, ◌≤◌, List, [], length, take, drop, Option, Some, None}
-use Rattle.sst_cli.specs.declared.refusal.Reason.TheVariants.{LineLong, Line}
-use Rattle.sst_cli.specs.declared.refusal.Refusal.{Refusal}
-use Rattle.sst_cli.specs.Texts.{cut}
-use Rattle.sst_cli.specs.Lines.{BeginsLong, IsRead}
+use Rattle.sst_cli.specs.declared.input.refusal.Reason.TheVariants.{LineLong, Line}
+use Rattle.sst_cli.specs.declared.input.refusal.Refusal.{Refusal}
+use Rattle.sst_text.specs.Texts.{cut}
+use Rattle.sst_text.specs.Lines.{BeginsLong, IsRead}
 use Rattle.sst_cli.specs.Reading.{refused_at}
 
 -- how many bytes the line at the front of the unread bytes has before its line end; none where the input has ended

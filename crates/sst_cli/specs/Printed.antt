@@ -3,8 +3,8 @@ use Rattle.std.specs.Prelude.{◌≡◌, ◌⊎◌, ℕ, List, take, Option}
 use Rattle.std.specs.Io.KnownBytes.{append_known}
 use Rattle.sst_device.specs.Faults.{Rose}
 use Rattle.sst_cli.specs.Run.{IsFault}
-use Rattle.sst_cli.specs.declared.program.Status.{Status}
-use Rattle.sst_cli.specs.declared.program.Status.TheVariants.{Device}
+use Rattle.sst_cli.specs.declared.status.Status.{Status}
+use Rattle.sst_cli.specs.declared.status.Status.TheVariants.{Device}
 
 -- the whole text was printed, and the status is the one that goes with it
 pub record IsWhole (result status : Status) (text : List ℕ) (old new : Option (List ℕ)) : Type 0 where

@@ -4,12 +4,12 @@ use Rattle.std.specs.Prelude.{ℕ, ◌+◌, nat_lt, nat_le, ◌==◌, if◌then�
 use Rattle.sst_key.specs.declared.calls.Call.{Call}
 use Rattle.sst_key.specs.declared.entries.Entry.{Entry}
 use Rattle.sst_key.specs.declared.faults.WriteFault.{WriteFault}
-use Rattle.sst_cli.specs.declared.refusal.Reason.{Reason}
-use Rattle.sst_cli.specs.declared.refusal.Reason.TheVariants.{LineLong, Line, Refused, Many}
-use Rattle.sst_cli.specs.declared.refusal.Refusal.{Refusal}
-use Rattle.sst_cli.specs.Texts.{entry_of_line}
-use Rattle.sst_cli.specs.CallText.{call_of_line}
-use Rattle.sst_cli.specs.Reasons.{reason}
+use Rattle.sst_cli.specs.declared.input.refusal.Reason.{Reason}
+use Rattle.sst_cli.specs.declared.input.refusal.Reason.TheVariants.{LineLong, Line, Refused, Many}
+use Rattle.sst_cli.specs.declared.input.refusal.Refusal.{Refusal}
+use Rattle.sst_text.specs.Texts.{entry_of_line}
+use Rattle.sst_text.specs.CallText.{call_of_line}
+use Rattle.sst_bbt_write.specs.Reasons.{reason}
 
 -- one of two answers, by a result
 abbrev pub result_match : {A B C : Type 0} → Result A B → (A → C) → (B → C) → C

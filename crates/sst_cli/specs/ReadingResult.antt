@@ -1,10 +1,10 @@
 -- What reading the lines of an input comes to, and adding them to a writer.
 use Rattle.std.specs.Prelude.{◌≡◌, ℕ, List, [], ◌∷◌, ◌++◌, Option, Some, Result, Ok, Err}
 use Rattle.sst_key.specs.declared.entries.Entry.{Entry}
-use Rattle.sst_cli.specs.declared.refusal.Refusal.{Refusal}
-use Rattle.sst_cli.specs.declared.refusal.Reason.{Reason}
-use Rattle.sst_cli.specs.declared.bbt_writer.BbtWriter.{BbtWriter}
-use Rattle.sst_cli.specs.After.{After}
+use Rattle.sst_cli.specs.declared.input.refusal.Refusal.{Refusal}
+use Rattle.sst_cli.specs.declared.input.refusal.Reason.{Reason}
+use Rattle.sst_bbt_write.specs.declared.bbt_writer.BbtWriter.{BbtWriter}
+use Rattle.sst_bbt_write.specs.After.{After}
 use Rattle.sst_cli.specs.Reading.{read_line, read_input, refused_at}
 
 -- the line is an entry that the writer took

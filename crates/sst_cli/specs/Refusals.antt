@@ -3,9 +3,9 @@ use Rattle.std.specs.Prelude.{ℕ, List, ◌++◌, codes}
 use Rattle.std.specs.Fmt.{decimal}
 use Rattle.sst_key.specs.declared.faults.WriteFault.{WriteFault}
 use Rattle.sst_key.specs.declared.faults.WriteFault.TheVariants.{NotIncreasing, KeyLong, ValueLong, Heavy, ExternalShape, KeySize, ShortKey}
-use Rattle.sst_cli.specs.declared.refusal.Reason.{Reason}
-use Rattle.sst_cli.specs.declared.refusal.Reason.TheVariants.{LineLong, Line, Refused, Many}
-use Rattle.sst_cli.specs.declared.refusal.Refusal.{Refusal}
+use Rattle.sst_cli.specs.declared.input.refusal.Reason.{Reason}
+use Rattle.sst_cli.specs.declared.input.refusal.Reason.TheVariants.{LineLong, Line, Refused, Many}
+use Rattle.sst_cli.specs.declared.input.refusal.Refusal.{Refusal}
 
 -- the name of a reason that a writer gives
 abbrev pub fault_text : WriteFault → List ℕ

@@ -6,8 +6,8 @@ use Rattle.sst_key.specs.declared.calls.Call.{Call}
 use Rattle.sst_key.specs.declared.calls.Answer.{Answer}
 use Rattle.sst_key.specs.declared.calls.Format.TheVariants.{Block}
 use Rattle.sst_key.specs.ListMachine.{replies_from}
-use Rattle.sst_cli.specs.ReplyText.{reply_line}
-use Rattle.sst_cli.specs.Cursors.{entry_shown}
+use Rattle.sst_text.specs.ReplyText.{reply_line}
+use Rattle.sst_bbt_read.specs.Cursors.{entry_shown}
 use Rattle.sst_bbt_spec.specs.Way.{IndexedBlock, joined, way_replies_from}
 
 -- the line of what a call answers, and its line end

@@ -8,10 +8,10 @@ use Rattle.sst_device.specs.Folder.{Files, put_file}
 use Rattle.sst_cli.specs.Reading.{read_input}
 use Rattle.sst_cli.specs.Refusals.{refusal_text}
 use Rattle.sst_cli.specs.Words.{WriteLine}
-use Rattle.sst_cli.specs.Written.{Written}
-use Rattle.sst_cli.specs.declared.refusal.Refusal.{Refusal}
-use Rattle.sst_cli.specs.declared.program.Status.{Status}
-use Rattle.sst_cli.specs.declared.program.Status.TheVariants.{Done, Device, Memory}
+use Rattle.sst_bbt_write.specs.Written.{Written}
+use Rattle.sst_cli.specs.declared.input.refusal.Refusal.{Refusal}
+use Rattle.sst_cli.specs.declared.status.Status.{Status}
+use Rattle.sst_cli.specs.declared.status.Status.TheVariants.{Done, Device, Memory}
 
 -- the line for words that are no command
 abbrev pub usage_text : List ℕ

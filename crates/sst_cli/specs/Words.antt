@@ -3,8 +3,8 @@
 use Rattle.std.specs.Prelude.{ℕ, ◌&&◌, nat_le, if◌then◌else◌, List, [], ◌∷◌, length, take, drop, codes, Option, Some, None, option_and_then}
 use Rattle.std.specs.Option.{option_map}
 use Rattle.std.specs.Str.{bytes_eq}
-use Rattle.sst_cli.specs.Texts.{seq_field}
-use Rattle.sst_cli.specs.declared.bbt_options.BbtOptions.{BbtOptions}
+use Rattle.sst_text.specs.Texts.{seq_field}
+use Rattle.sst_bbt_write.specs.declared.bbt_options.BbtOptions.{BbtOptions}
 
 -- what stands behind this front of a word; nothing where the word has another front
 abbrev pub behind : List ℕ → List ℕ → Option (List ℕ)

@@ -1,14 +1,13 @@
 //! Tests of call lines and of the lines of replies. Each text and what it stands for was written by hand.
 ghost use Rattle.std.specs.Prelude.{◌≤◌};
 
-use crate::call_line::{call_name, call_of_line};
-use crate::call_reading::read_calls;
-use crate::reading::InputStop;
-use crate::refusal::{Reason, Refusal};
-use crate::reply_line::put_reply_line;
+use crate::input::calls::read_calls;
+use crate::input::entries::InputStop;
+use crate::input::refusal::{Reason, Refusal};
 use sst_device::{DevStop, MemIntake};
 use sst_key::{Call, EntryView, Kind, Reply, Target};
 use sst_num::{Bytes, Memory};
+use sst_text::{call_name, call_of_line, put_reply_line};
 use std::alloc::Global;
 use std::test::Fail;
 

@@ -121,53 +121,26 @@
 //! ```
 #![tactic(auto)]
 
-mod answering;
-mod bbt_fault;
-mod bbt_options;
-mod bbt_reader;
-mod bbt_writer;
-mod block_rows;
-mod block_search;
-mod call_command;
-mod call_line;
-mod call_list;
-mod call_reading;
 #[cfg(test)]
 mod call_tests;
-mod cuts;
-mod entry_line;
-mod fault_text;
-mod fields;
+mod command;
+mod commands;
+mod input;
 #[cfg(test)]
 mod law_tests;
 mod laws;
-mod lines;
-mod list_search;
-mod opening_laws;
-mod printing;
-mod produce;
+#[cfg(test)]
+mod opening_tests;
+mod output;
 mod program;
 #[cfg(test)]
 mod program_tests;
-mod properties;
-mod reading;
-mod refusal;
-mod reply_line;
-mod separators;
-mod table_parts;
+mod status;
 #[cfg(test)]
 mod text_tests;
-mod words;
-mod write_command;
 
-pub use bbt_fault::BbtFault;
 pub use laws::{
-    a_call_line_reads_back, a_call_list_reads_back, a_list_is_cut_where_blocks_are_full,
-    a_list_reads_back, an_entry_line_reads_back, what_a_text_says_fits,
-    written_file_stands_for_its_list,
+    a_call_list_reads_back, a_list_reads_back, a_written_file_reads_back, what_a_text_says_fits,
 };
-pub use opening_laws::{
-    a_fault_is_shown, a_file_opens_to_its_blocks, a_file_that_opens_shows_no_fault,
-    a_written_file_reads_back,
-};
-pub use program::{Status, run};
+pub use program::run;
+pub use status::Status;

@@ -6,49 +6,31 @@ ghost use Rattle.hex.specs.Hex.{IsBytes};
 ghost use Rattle.sst_key.specs.declared.calls.Call.{Call};
 ghost use Rattle.sst_key.specs.declared.entries.Entry.{Entry};
 ghost use Rattle.sst_bbt_spec.specs.BlockBased.{Opens, BlockBased};
-ghost use Rattle.sst_cli.specs.CallText.{calls_text, AreInLimits, AreOfBytes};
+ghost use Rattle.sst_text.specs.CallText.{calls_text, AreInLimits, AreOfBytes};
 ghost use Rattle.sst_cli.specs.CallsRun.{Answered, AnsweredByWay, IsDamaged, IsLacking, IsRefusedInput, IsTextFor};
-ghost use Rattle.sst_cli.specs.EntryText.{lines_text, AreBytes};
+ghost use Rattle.sst_text.specs.EntryText.{lines_text, AreBytes};
 ghost use Rattle.sst_device.specs.Faults.{Rose};
 ghost use Rattle.sst_device.specs.Folder.{file_of, misses, put_file};
-ghost use Rattle.sst_cli.specs.Opening.{blocks_read};
+ghost use Rattle.sst_bbt_read.specs.Opening.{blocks_read};
 ghost use Rattle.sst_cli.specs.Printed.{Prints};
 ghost use Rattle.sst_cli.specs.Reading as reading;
 ghost use Rattle.sst_cli.specs.Refusals.{refusal_text};
 ghost use Rattle.sst_cli.specs.Run.{IsFault, ChangesOnly, Wrote, usage_text};
-ghost use Rattle.sst_cli.specs.Taken.{IsTakenTo};
+ghost use Rattle.sst_text.specs.Taken.{IsTakenTo};
 ghost use Rattle.sst_bbt_spec.specs.Way.{IndexedBlock};
 ghost use Rattle.sst_cli.specs.Words as line;
 ghost use Rattle.sst_cli.specs.Words.{WriteLine};
-ghost use Rattle.sst_cli.specs.Written.{Fits};
-ghost use Rattle.sst_cli.specs.declared.bbt_fault.BbtFault.{BbtFault};
-ghost use Rattle.sst_cli.specs.declared.refusal.Refusal.{Refusal};
+ghost use Rattle.sst_bbt_write.specs.Written.{Fits};
+ghost use Rattle.sst_bbt_read.specs.declared.bbt_fault.BbtFault.{BbtFault};
+ghost use Rattle.sst_cli.specs.declared.input.refusal.Refusal.{Refusal};
 
-use crate::call_command::calls;
-use crate::printing::print;
-use crate::words::{calls_name, write_line};
-use crate::write_command::write;
+use crate::command::{calls_name, write_line};
+use crate::commands::calls::calls;
+use crate::commands::write::write;
+use crate::output::printing::print;
+use crate::status::Status;
 use sst_device::{Folder, Intake, Sink};
 use std::alloc::Global;
-
-/// How a run of the program ends. A number stands for each, from 0 on in this order.
-#[derive(Clone, Copy, Debug, PartialEq, Eq)]
-pub enum Status {
-    /// The command was carried out.
-    Done,
-    /// The words are no command.
-    Usage,
-    /// The input is refused.
-    Input,
-    /// A file is damaged.
-    File,
-    /// A cuckoo table has tried all its hash functions.
-    Exhausted,
-    /// The folder, the input or the output failed.
-    Device,
-    /// Memory ran out.
-    Memory,
-}
 
 /// What is printed for words that are no command.
 const USAGE: &str = "usage\n";

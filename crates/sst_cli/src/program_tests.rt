@@ -1,5 +1,6 @@
 //! Tests of the program where the output has no memory, and of words that are no command.
-use crate::program::{Status, run};
+use crate::program::run;
+use crate::status::Status;
 use sst_device::{DevStop, MemFolder, MemIntake, MemSink, Sink};
 use std::test::Fail;
 

@@ -1,6 +1,6 @@
 //! Tests of the texts that are printed for refusals and for damaged files, each once. They were written by hand.
-use crate::bbt_fault::BbtFault;
-use crate::refusal::{Reason, Refusal, refusal_line};
+use crate::input::refusal::{Reason, Refusal, refusal_line};
+use sst_bbt_read::BbtFault;
 use sst_block::BlockFault;
 use sst_device::FrameFault;
 use sst_key::WriteFault;

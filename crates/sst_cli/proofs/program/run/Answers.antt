@@ -1,8 +1,8 @@
 use Rattle.std.proofs.Common.{ℕ, List, Option, map, refl, sym, subst, inl, inr, ◌∙◌}
 use Rattle.std.specs.String.{string_bytes}
-use Rattle.sst_cli.specs.CallText.{calls_text}
+use Rattle.sst_text.specs.CallText.{calls_text}
 use Rattle.sst_cli.specs.CallsRun.{IsTextFor, IsOtherText}
-use Rattle.sst_cli.specs.EntryText.{lines_text}
+use Rattle.sst_text.specs.EntryText.{lines_text}
 use Rattle.sst_cli.specs.Reading.{read_input, read_calls}
 use Rattle.sst_cli.specs.Run.{usage_text}
 use Rattle.sst_cli.specs.Words.{WriteLine}

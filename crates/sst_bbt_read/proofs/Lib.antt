@@ -1,0 +1,16 @@
+pub mod Answered
+pub mod BlockRows
+pub mod BlockSearch
+pub mod BlocksOpened
+pub mod FaultsShown
+pub mod JoinedBlocks
+pub mod Landings
+pub mod ListSearch
+pub mod NoFault
+pub mod OpenSteps
+pub mod Reached
+pub mod RowsLed
+pub mod RunsRead
+pub mod RunsWalked
+pub mod TableGrown
+pub mod WayOfBlocks

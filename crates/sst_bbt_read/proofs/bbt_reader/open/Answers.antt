@@ -1,0 +1,21 @@
+use Rattle.std.proofs.Common.{◌≤◌, length, Option, ap, ◌∙◌, arith}
+use Rattle.sst_device.specs.Folder.{Files, file_of}
+use Rattle.sst_bbt_read.proofs.OpenSteps.{stopped, loaded_length, after_load, whole_failed}
+use Rattle.sst_bbt_read.proofs.bbt_reader.open.Goals as goal
+
+pub returns-in-Err-clause-told : goal.returns-in-Err-clause-told
+returns-in-Err-clause-told g c = λ file told. rw (c.meta_stop.ensures) (stopped c.in-Err.stop file (c.in-Err.ensures.told file told))
+
+pub returns-in-Ok-clause-told : goal.returns-in-Ok-clause-told
+returns-in-Ok-clause-told g c = λ file told.
+    let known = ap (λ (h : Option Files). file_of h c.args.name.now) c.load.ensures.same_files ∙ told in
+    let loaded = c.in-Ok.ensures.told file told in
+    let within : c.saturating_sub-end.result ≤ length file = omega (arith, c.saturating_sub-end.ensures, loaded_length file c.in-Ok.loaded loaded) in
+    after_load c.open_index.result c.in-Ok.loaded file c.saturating_sub-end.result loaded c.saturating_sub-end.ensures (c.open_index.ensures.told file known within)
+
+pub returns-in-Ok-clause-device : goal.returns-in-Ok-clause-device
+returns-in-Ok-clause-device g c = λ failed.
+    whole_failed (g.F.Folder.held c.args.files.now) (g.F.Folder.held c.load.new.files) c.args.name.now c.saturating_sub-end.result (g.F.Folder.faults c.args.files.now)
+    (g.F.Folder.faults c.load.new.files) (g.F.Folder.faults c.open_index.new.files) c.load.ensures.same_files c.load.ensures.counts
+    (λ file told. omega (arith, c.saturating_sub-end.ensures, loaded_length file c.in-Ok.loaded (c.in-Ok.ensures.told file told)))
+    (c.open_index.ensures.device failed)

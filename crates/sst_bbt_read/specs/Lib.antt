@@ -1,0 +1,6 @@
+pub mod Cursors
+pub mod FaultText
+pub mod Opening
+pub mod Reader
+pub mod Shows
+pub mod TableBlocks

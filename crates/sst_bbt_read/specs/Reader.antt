@@ -1,0 +1,30 @@
+-- What opening a file answers of what the file reads as. Where a device failed or memory ran out an answer says nothing.
+use Rattle.std.specs.Prelude.{◌≡◌, ℕ, ◌<◌, List, ◌++◌, length, Result, Ok, Err}
+use Rattle.sst_key.specs.declared.entries.Entry.{Entry}
+use Rattle.sst_num.specs.declared.stops.Stop.{Stop}
+use Rattle.sst_num.specs.declared.stops.Stop.TheVariants.{Damage, Device, Memory}
+use Rattle.sst_bbt_read.specs.TableBlocks.{Table, AreEntries, blocks_of, row_blocks_of}
+use Rattle.sst_bbt_read.specs.Opening.{RowBlock}
+use Rattle.sst_bbt_read.specs.declared.bbt_fault.BbtFault.{BbtFault}
+
+-- an answer has the blocks that were read, or is the first fault
+abbrev pub Opened : Result Table (Stop BbtFault) → Result (List RowBlock) BbtFault → Type 0
+Opened (Ok table) read = read ≡ Ok (row_blocks_of (blocks_of table))
+Opened (Err (Damage fault)) read = read ≡ Err fault
+Opened (Err Device) read = Unit {0}
+Opened (Err Memory) read = Unit {0}
+
+-- the entries of one data block stand behind those before, and end at the place
+pub record BlockAdded (before now : List Entry) (place : ℕ) : Type 0 where
+  pub entries : List Entry
+  pub appended : now ≡ before ++ entries
+  pub ends : place ≡ length now
+  pub some : 0 < length entries
+  pub are : AreEntries entries
+
+-- where an answer is a fault, it is the first
+abbrev pub Stopped : {A B : Type 0} → Result A (Stop BbtFault) → Result B BbtFault → Type 0
+Stopped (Ok x) read = Unit {0}
+Stopped (Err (Damage fault)) read = read ≡ Err fault
+Stopped (Err Device) read = Unit {0}
+Stopped (Err Memory) read = Unit {0}

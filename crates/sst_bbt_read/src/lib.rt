@@ -1,0 +1,55 @@
+//! The reader of block-based files: a file is opened and answers calls, or the first thing that is wrong with it is named.
+//!
+//! # The way of a call
+//!
+//! ```text
+//!          load            draw_framed, check_block                 search
+//! file ----------> footer --------------------------> index block --------> data block --> row
+//!        (sst_meta)        each block is checked before a row of it is shown
+//!
+//! separators    s1        s2        s3        the first separator that isn't before the target
+//!               |         |         |         leads to the block in which the target may stand
+//! data blocks  [ .. s1 ] [ .. s2 ] [ .. s3 ]
+//! ```
+//!
+//! # Example
+//!
+//! In a file of three data blocks of one user key, `6b 9`, `6b 5` and `6b 2`, each separator is the one key of its block.
+//! A Get of `6b` at the snapshot 8 passes the separator `6b 9`, which is before the target, comes to the block of `6b 5`
+//! and answers its row:
+//!
+//! ```text
+//! separator   bytes                        before the target 6b 8?
+//! 6b 9        6b 01 09 00 00 00 00 00 00   yes: a greater number comes first
+//! 6b 5        6b 01 05 00 00 00 00 00 00   no: this block is looked into
+//! ```
+//!
+//! # Promises
+//!
+//! - [`open`] answers the data blocks that the file reads as (`blocks_read`, specs/Opening.antt), or the first thing that is
+//!   wrong in the order of loading, index, data blocks; a checksum that differs is named before a row of its block is read.
+//!   No file changes, and a fault of the folder is answered as one.
+//! - A file opens to data blocks exactly where it reads as them ([`a_file_opens_to_its_blocks`]); a fault that is read is
+//!   one that the file shows ([`a_fault_is_shown`]); and a file that opens shows none
+//!   ([`a_file_that_opens_shows_no_fault`]).
+//! - Each call of a [`BbtReader`] moves its [`Cursor`] as the way of the index says (`way_answer`, sst_bbt_spec). Where the
+//!   separators separate, these are the answers of the list.
+//!
+//! For now all entries of a file are kept in memory.
+//!
+//! RocksDB: wiki page "Rocksdb BlockBasedTable Format"; `BlockBasedTable` in
+//! table/block_based/block_based_table_reader.cc.
+#![tactic(auto)]
+
+mod bbt_fault;
+mod bbt_reader;
+mod block_rows;
+mod fault_text;
+mod opening_laws;
+mod search;
+
+pub use bbt_fault::BbtFault;
+pub use bbt_reader::{BbtReader, BlockEnd, Cursor, open};
+pub use opening_laws::{
+    a_fault_is_shown, a_file_opens_to_its_blocks, a_file_that_opens_shows_no_fault,
+};

@@ -1,0 +1,45 @@
+//! What a file reads as is what it opens to.
+ghost use Rattle.std.specs.Prelude.{◌≡◌, ◌⊎◌, ℕ, List, Ok, Err};
+ghost use Rattle.hex.specs.Hex.{IsBytes};
+ghost use Rattle.sst_meta.specs.FooterReading.{last_bytes};
+ghost use Rattle.sst_bbt_spec.specs.BlockBased.{Opens};
+ghost use Rattle.sst_bbt_spec.specs.Way.{IndexedBlock};
+ghost use Rattle.sst_bbt_read.specs.Opening.{RowBlock, blocks_read};
+ghost use Rattle.sst_bbt_read.specs.Shows.{Shows};
+ghost use Rattle.sst_bbt_read.specs.TableBlocks.{row_blocks_of};
+ghost use Rattle.sst_bbt_read.specs.declared.bbt_fault.BbtFault.{BbtFault};
+
+/// A file opens to data blocks exactly where it reads as them.
+///
+/// What a file opens to is told by what it says of itself, its blocks and the joined spellings of their rows, and never by
+/// reading. `complete`: what a file opens to is read. `sound`: a file opens to what is read.
+/// RocksDB: `BlockBasedTable::Open` in table/block_based/block_based_table_reader.cc.
+pub fn a_file_opens_to_its_blocks()
+    ensures complete { (file : List ℕ) (blocks : List IndexedBlock) → Opens file blocks
+        → blocks_read file ≡ Ok (row_blocks_of blocks) }
+    ensures sound { (file : List ℕ) (read : List RowBlock) → blocks_read file ≡ Ok read
+        → (blocks : List IndexedBlock) × Opens file blocks × (read ≡ row_blocks_of blocks) }
+{}
+
+/// A fault that a file reads as is one that the file shows.
+///
+/// A fault is shown by what the file says of itself, by the frame of a block that the footer or the index leads to, or by what
+/// the bytes of such a block read as. This holds where the last 53 numbers of the list are bytes, as those of a real file
+/// are.
+/// RocksDB: `Status::Corruption` and `Status::NotSupported` of `BlockBasedTable::Open`, in
+/// table/block_based/block_based_table_reader.cc and table/format.cc.
+pub fn a_fault_is_shown()
+    ensures { (file : List ℕ) (fault : BbtFault) → IsBytes (last_bytes 53 file) → blocks_read file ≡ Err fault
+        → Shows file fault }
+{}
+
+/// A file that opens shows no fault, and each file opens or shows one.
+///
+/// `none`: no file both opens to data blocks and shows a fault. `either` holds where the last 53 numbers of the list are
+/// bytes, as those of a real file are.
+/// RocksDB: `BlockBasedTable::Open` in table/block_based/block_based_table_reader.cc.
+pub fn a_file_that_opens_shows_no_fault()
+    ensures none { (file : List ℕ) (blocks : List IndexedBlock) (fault : BbtFault) → Opens file blocks → Shows file fault → ⊥ }
+    ensures either { (file : List ℕ) → IsBytes (last_bytes 53 file)
+        → ((blocks : List IndexedBlock) × Opens file blocks) ⊎ ((fault : BbtFault) × Shows file fault) }
+{}

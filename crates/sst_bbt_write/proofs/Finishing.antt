@@ -1,0 +1,174 @@
+-- What a writer appends at the end is what stands behind the data blocks, and with it the file is the one of the list.
+use Rattle.std.proofs.Common.{◌≡◌, ℕ, ◌+◌, ◌^◌, ◌<◌, false, List, [], ◌∷◌, ◌++◌, length, refl, sym, ap, ◌∙◌, subst, append_assoc, arith}
+use Rattle.sst_key.specs.declared.entries.Entry.{Entry}
+use Rattle.sst_block.specs.declared.row_form.RowForm.TheVariants.{Entries, Index}
+use Rattle.sst_block.specs.Builder.{Holds}
+use Rattle.sst_block.proofs.Size.{block_of-le}
+use Rattle.sst_bbt_spec.specs.BlockBased.{BlockBased}
+use Rattle.sst_bbt_write.specs.declared.bbt_writer.BbtWriter.{BbtWriter}
+use Rattle.sst_bbt_write.specs.declared.bbt_options.BbtOptions.{BbtOptions}
+use Rattle.sst_bbt_write.specs.declared.properties.Sizes.{Sizes}
+use Rattle.sst_bbt_write.specs.After.{After, cut_by}
+use Rattle.sst_bbt_write.specs.Cut.{Blocks, cut_of, entries_in}
+use Rattle.sst_bbt_write.specs.Keeps.{Keeps, ended_last, with_room, with_entry}
+use Rattle.sst_bbt_write.specs.Written.{Fits, Written, data_part, index_rows, index_block, sizes_of, end_of, end_part, file_of_blocks, table_of}
+use Rattle.sst_bbt_write.proofs.CutSteps.{cut_of-of, cut_of-steps, blocks-last}
+use Rattle.sst_bbt_write.proofs.IndexRoom.{index-room, data_part-le, weight-both}
+use Rattle.sst_bbt_write.proofs.Rows.{Fits-nil}
+use Rattle.sst_bbt_write.proofs.Stands.{stands}
+use Rattle.sst_key.specs.Entry.{weight}
+
+-- the block has an entry where it counts a row
+pub kept-some : (w : BbtWriter) (cut : Blocks) (entries : List Entry) (bytes : List ℕ) → Keeps w cut entries bytes → 0 < w.rows → 0 < length cut.current
+kept-some w cut entries bytes kept some = let rows = kept.rows in omega arith
+
+-- between two calls a writer keeps the list as it is cut
+pub keeps-from_after : (w : BbtWriter) (entries : List Entry) (bytes : List ℕ) → After w entries bytes → Keeps w (cut_by w entries) entries bytes
+keeps-from_after w entries bytes after =
+    let are = cut_of-of w.options.block_size entries in
+    record {
+      sound = after.sound;
+      joined = are.joined;
+      filled = are.filled;
+      block = after.block;
+      rows = after.rows;
+      index = after.index;
+      blocks = after.blocks;
+      data_size = after.data_size;
+      appended = after.appended;
+      last = after.last;
+      count = after.count;
+      keys = after.keys;
+      values = after.values;
+      weighs = after.weighs;
+      fits = after.fits;
+    }
+
+-- and where it keeps it so, that is all that it keeps between two calls
+after-as_cut : (w : BbtWriter) (entries : List Entry) (bytes : List ℕ) → Keeps w (cut_by w entries) entries bytes → After w entries bytes
+after-as_cut w entries bytes kept =
+    record {
+      sound = kept.sound;
+      block = kept.block;
+      rows = kept.rows;
+      index = kept.index;
+      blocks = kept.blocks;
+      data_size = kept.data_size;
+      appended = kept.appended;
+      last = kept.last;
+      count = kept.count;
+      keys = kept.keys;
+      values = kept.values;
+      weighs = kept.weighs;
+      fits = kept.fits;
+    }
+
+-- so it is when an entry was added in its two steps
+pub after-added : (w : BbtWriter) (options : BbtOptions) (entries : List Entry) (e : Entry) (bytes : List ℕ) → w.options ≡ options
+    → Keeps w (with_entry (with_room options.block_size (cut_of options.block_size entries)) e) (entries ++ e ∷ []) bytes → After w (entries ++ e ∷ []) bytes
+after-added w options entries e bytes same kept =
+    let cut = sym (cut_of-steps options.block_size entries e) ∙ ap (λ (o : BbtOptions). cut_of o.block_size (entries ++ e ∷ [])) (sym same) in
+    after-as_cut w (entries ++ e ∷ []) bytes (subst (λ (b : Blocks). Keeps w b (entries ++ e ∷ []) bytes) cut kept)
+
+-- the numbers of the properties are those of the list
+pub rest-sizes : (w : BbtWriter) (cut : Blocks) (entries : List Entry) (bytes index : List ℕ) (n : ℕ) → Keeps w cut entries bytes
+    → index ≡ index_block cut.ended → n ≡ length index
+    → ◌≡◌ {A = Sizes} (record { data_size = w.data_size; index_size = n + 5; blocks = w.blocks; entries = w.count; keys = w.keys; values = w.values }) (sizes_of cut.ended entries)
+rest-sizes w cut entries bytes index n kept index_is long =
+    let size = long ∙ ap length index_is in
+    let at : w.data_size ≡ length (data_part cut.ended) = kept.data_size ∙ ap length kept.appended in
+    rw (at, size, kept.blocks, kept.count, kept.keys, kept.values) refl
+
+-- they fit their numbers
+pub rest-room : (w : BbtWriter) (cut : Blocks) (entries : List Entry) (bytes index : List ℕ) (n : ℕ) → Keeps w cut entries bytes
+    → index ≡ index_block cut.ended → n ≡ length index → w.data_size + (n + 5) < 2 ^ 60
+rest-room w cut entries bytes index n kept index_is long =
+    let size = long ∙ ap length index_is in
+    let at : w.data_size ≡ length (data_part cut.ended) = kept.data_size ∙ ap length kept.appended in
+    let sum = ap weight kept.joined ∙ weight-both (entries_in cut.ended) cut.current in
+    let light = kept.fits.light in
+    omega (arith, data_part-le cut.ended kept.filled, index-room 0 cut.ended kept.filled, block_of-le 1 (index_rows 0 cut.ended))
+
+-- what is put behind the data blocks is what stands there
+pub rest-is : (cut : Blocks) (entries : List Entry) (index : List ℕ) (sizes : Sizes) → index ≡ index_block cut.ended → sizes ≡ sizes_of cut.ended entries
+    → end_of index sizes ≡ end_part cut.ended (sizes_of cut.ended entries)
+rest-is cut entries index sizes index_is sizes_are =
+    ap (λ (l : List ℕ). end_of l sizes) index_is ∙ ap (λ (s : Sizes). end_of (index_block cut.ended) s) sizes_are
+
+-- the file is then the one of the list
+file-is : (options : BbtOptions) (entries : List Entry) (bytes piece : List ℕ)
+    → bytes ++ piece ≡ data_part (ended_last (cut_of options.block_size entries)).ended
+    → bytes ++ (piece ++ end_part (ended_last (cut_of options.block_size entries)).ended (sizes_of (ended_last (cut_of options.block_size entries)).ended entries))
+    ≡ table_of options entries
+unfolding table_of
+file-is options entries bytes piece put =
+    let ended = (ended_last (cut_of options.block_size entries)).ended in
+    let rest = end_part ended (sizes_of ended entries) in
+    sym (append_assoc bytes piece rest) ∙ ap (λ (l : List ℕ). l ++ rest) put
+    ∙ ap (λ (b : List (List Entry)). file_of_blocks b entries) (blocks-last options.block_size entries)
+
+pub finished : (options : BbtOptions) (entries : List Entry) (bytes piece : List ℕ) → Fits entries
+    → bytes ++ piece ≡ data_part (ended_last (cut_of options.block_size entries)).ended
+    → Written options (bytes ++ (piece ++ end_part (ended_last (cut_of options.block_size entries)).ended (sizes_of (ended_last (cut_of options.block_size entries)).ended entries))) entries
+finished options entries bytes piece fits put =
+    let file = file-is options entries bytes piece put in
+    record { bytes = file; stands = subst (λ (f : List ℕ). BlockBased f entries) (sym file) (stands options entries fits) }
+
+-- what a writer keeps it keeps with another key at hand
+pub keeps-other : (w new : BbtWriter) (cut : Blocks) (entries : List Entry) (bytes : List ℕ) → Keeps w cut entries bytes
+    → new ≡ record {
+      alloc = w.alloc;
+      options = w.options;
+      block = w.block;
+      rows = w.rows;
+      index = w.index;
+      blocks = w.blocks;
+      data_size = w.data_size;
+      last = w.last;
+      key = new.key;
+      count = w.count;
+      keys = w.keys;
+      values = w.values;
+      weight = w.weight;
+      failed = w.failed;
+    } → Keeps new cut entries bytes
+keeps-other w new cut entries bytes kept same =
+    subst (λ (b : BbtWriter). Keeps b cut entries bytes) (sym same)
+    (record {
+      sound = kept.sound;
+      joined = kept.joined;
+      filled = kept.filled;
+      block = kept.block;
+      rows = kept.rows;
+      index = kept.index;
+      blocks = kept.blocks;
+      data_size = kept.data_size;
+      appended = kept.appended;
+      last = kept.last;
+      count = kept.count;
+      keys = kept.keys;
+      values = kept.values;
+      weighs = kept.weighs;
+      fits = kept.fits;
+    })
+
+-- a writer keeps the list of no entry
+pub after-none : (w : BbtWriter) → w.failed ≡ false → Holds w.block Entries 16 [] → w.rows ≡ 0 → Holds w.index (Index false false) 1 []
+    → w.blocks ≡ 0 → w.data_size ≡ 0 → w.last.items ≡ [] → w.count ≡ 0 → w.keys ≡ 0 → w.values ≡ 0 → w.weight ≡ 0 → After w [] []
+unfolding cut_of
+after-none w sound block rows index blocks data_size last count keys values weighs =
+    record {
+      sound = sound;
+      block = block;
+      rows = rows;
+      index = index;
+      blocks = blocks;
+      data_size = data_size;
+      appended = refl;
+      last = last;
+      count = count;
+      keys = keys;
+      values = values;
+      weighs = weighs;
+      fits = Fits-nil;
+    }

@@ -1,0 +1,17 @@
+pub mod Added
+pub mod CutSteps
+pub mod DataBlocks
+pub mod Ending
+pub mod Entering
+pub mod Finishing
+pub mod FullBlocks
+pub mod InUse
+pub mod IndexRoom
+pub mod IndexRows
+pub mod ListParts
+pub mod OneCut
+pub mod PropertiesStand
+pub mod PropertyRows
+pub mod Rows
+pub mod Stands
+pub mod TableParts

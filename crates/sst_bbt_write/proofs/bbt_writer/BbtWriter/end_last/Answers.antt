@@ -1,0 +1,16 @@
+use Rattle.std.proofs.Common.{◌++◌, sym, subst, arith}
+use Rattle.std.proofs.lemmas.Result.{on_ok_weaker}
+use Rattle.sst_bbt_write.specs.Cut.{Blocks}
+use Rattle.sst_bbt_write.specs.Keeps.{Keeps}
+use Rattle.sst_bbt_write.proofs.CutSteps.{last-some}
+use Rattle.sst_bbt_write.proofs.Finishing.{kept-some}
+use Rattle.sst_bbt_write.proofs.bbt_writer.BbtWriter.end_last.Goals as goal
+
+pub returns-clause-ok : goal.returns-clause-ok
+returns-clause-ok c =
+    on_ok_weaker c.end_block.result
+    (λ ended cut entries bytes kept.
+    let put = ended cut entries bytes kept in
+    let some = kept-some c.args.self.now cut entries bytes kept (omega arith) in
+    (put.0, put.1, subst (λ (b : Blocks). Keeps c.end_block.new.self b entries (bytes ++ put.0)) (sym (last-some cut some)) put.2))
+    c.end_block.ensures.ok

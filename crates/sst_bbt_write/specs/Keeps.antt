@@ -1,0 +1,57 @@
+-- What a block-based writer keeps of a list, however it is cut into blocks: so it stands between the steps of one call too.
+-- RocksDB: BlockBasedTableBuilder::Rep in table/block_based/block_based_table_builder.cc.
+use Rattle.std.specs.Prelude.{◌≡◌, ℕ, ◌<◌, nat_lt, if◌then◌else◌, false, List, [], ◌∷◌, ◌++◌, length, All}
+use Rattle.sst_key.specs.declared.entries.Entry.{Entry}
+use Rattle.sst_key.specs.Entry.{weight}
+use Rattle.sst_block.specs.declared.row_form.RowForm.TheVariants.{Entries, Index}
+use Rattle.sst_block.specs.Builder as builder
+use Rattle.sst_bbt_spec.specs.Rows.{rows_of}
+use Rattle.sst_bbt_write.specs.Cut.{Blocks, entries_in, is_full}
+use Rattle.sst_bbt_write.specs.Written.{Fits, data_part, index_rows, key_bytes, value_bytes}
+use Rattle.sst_bbt_write.specs.declared.bbt_writer.BbtWriter.{BbtWriter}
+
+-- the block has an entry
+abbrev pub HasEntry : List Entry → Type 0
+HasEntry block = 0 < length block
+
+-- all that the writer keeps is what the list gives, cut into these blocks, and these bytes were appended
+pub record Keeps (w : BbtWriter) (cut : Blocks) (entries : List Entry) (bytes : List ℕ) : Type 0 where
+  pub sound : w.failed ≡ false
+  -- the blocks are the list, and each that is ended has an entry
+  pub joined : entries ≡ entries_in cut.ended ++ cut.current
+  pub filled : All HasEntry cut.ended
+  -- the block that isn't ended
+  pub block : builder.Holds w.block Entries 16 (rows_of cut.current)
+  pub rows : w.rows ≡ length cut.current
+  -- the index and the number of those that are, which were appended
+  pub index : builder.Holds w.index (Index false false) 1 (index_rows 0 cut.ended)
+  pub blocks : w.blocks ≡ length cut.ended
+  pub data_size : w.data_size ≡ length bytes
+  pub appended : bytes ≡ data_part cut.ended
+  -- the entries
+  pub last : w.last.items ≡ builder.last_key [] (rows_of entries)
+  pub count : w.count ≡ length entries
+  pub keys : w.keys ≡ key_bytes entries
+  pub values : w.values ≡ value_bytes entries
+  pub weighs : w.weight ≡ weight entries
+  pub fits : Fits entries
+
+-- the writer keeps some list
+abbrev pub KeepsSome : BbtWriter → Type 0
+KeepsSome w = (cut : Blocks) × (entries : List Entry) × (bytes : List ℕ) × Keeps w cut entries bytes
+
+-- the block is ended, and none is begun
+abbrev pub ended_now : Blocks → Blocks
+ended_now cut = record { ended = cut.ended ++ cut.current ∷ []; current = [] }
+
+-- the block is ended, if it has an entry
+abbrev pub ended_last : Blocks → Blocks
+ended_last cut = if nat_lt 0 (length cut.current) then ended_now cut else cut
+
+-- the block is ended, if it is full
+abbrev pub with_room : ℕ → Blocks → Blocks
+with_room limit cut = if is_full limit cut.current then ended_now cut else cut
+
+-- the block has an entry more
+abbrev pub with_entry : Blocks → Entry → Blocks
+with_entry cut e = record { ended = cut.ended; current = cut.current ++ e ∷ [] }

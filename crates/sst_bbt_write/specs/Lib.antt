@@ -1,0 +1,6 @@
+pub mod After
+pub mod Cut
+pub mod Keeps
+pub mod NextProperty
+pub mod Reasons
+pub mod Written

@@ -1,0 +1,18 @@
+-- The properties of a file, one by one in the order in which they are written.
+use Rattle.std.specs.Prelude.{◌≡◌, List, [], ◌∷◌, ◌++◌}
+use Rattle.sst_num.specs.Spelling.{fixed}
+use Rattle.sst_block.specs.Block.{Row}
+use Rattle.sst_meta.specs.Names as names
+use Rattle.sst_meta.specs.declared.name.Name.TheVariants as name
+use Rattle.sst_bbt_write.specs.Written.{property, properties}
+use Rattle.sst_bbt_write.specs.declared.properties.Sizes.{Sizes}
+
+-- the properties of the index type and the order of user keys, which are the same in each file
+abbrev pub kind_properties : List Row
+kind_properties = property (names.name_bytes name.IndexType) (fixed 4 0) ∷ property names.comparator names.bytewise ∷ []
+
+-- the pair comes next after these pairs in the properties of some numbers
+pub record IsNextProperty (pairs : List Row) (pair : Row) : Type 0 where
+  pub sizes : Sizes
+  pub rest : List Row
+  pub all : pairs ++ pair ∷ rest ≡ properties sizes

@@ -1,0 +1,123 @@
+-- The one file that is written for a list with some options: which choices a writer makes, and which lists it takes.
+-- RocksDB: BlockBasedTableBuilder::Add and Finish in table/block_based/block_based_table_builder.cc; PropertyBlockBuilder
+-- and MetaIndexBuilder in table/meta_blocks.cc. The choices are this project's own. For now each separator is the last key
+-- of its block.
+use Rattle.std.specs.Prelude.{◌≡◌, ℕ, ◌+◌, ◌^◌, ◌≤◌, List, [], ◌∷◌, ◌++◌, length, sum_by, All}
+use Rattle.std.specs.List.{flat_map}
+use Rattle.sst_num.specs.Spelling.{fixed, varint, handle_spelling}
+use Rattle.sst_num.specs.declared.block_handle.Handle.{Handle}
+use Rattle.sst_key.specs.declared.entries.Entry.{Entry}
+use Rattle.sst_key.specs.Entry.{IsOrdered, weight, key_of}
+use Rattle.sst_block.specs.Block.{Row}
+use Rattle.sst_block.specs.Builder.{last_key}
+use Rattle.sst_block.specs.Chosen.{block_of}
+use Rattle.sst_device.specs.Framed.{frame_of}
+use Rattle.sst_meta.specs.Names as names
+use Rattle.sst_meta.specs.Put.{ending_of}
+use Rattle.sst_bbt_spec.specs.Rows.{HasSeq, rows_of}
+use Rattle.sst_bbt_spec.specs.BlockBased.{BlockBased}
+use Rattle.sst_bbt_write.specs.Cut.{data_block, blocks_for}
+use Rattle.sst_meta.specs.PropertyNames as property_names
+use Rattle.sst_meta.specs.declared.name.Name.TheVariants as name
+use Rattle.sst_bbt_write.specs.declared.bbt_options.BbtOptions.{BbtOptions}
+use Rattle.sst_bbt_write.specs.declared.properties.Sizes.{Sizes}
+
+-- an entry is within the limits of each entry alone
+pub record IsInLimits (e : Entry) : Type 0 where
+  pub key : length e.user ≤ 65536
+  pub value : length e.value ≤ 16777216
+  pub seq : HasSeq e
+
+-- a list that is written: it increases, each entry is within its limits, and so is their weight
+pub record Fits (entries : List Entry) : Type 0 where
+  pub ordered : IsOrdered entries
+  pub limits : All IsInLimits entries
+  pub light : weight entries ≤ 2 ^ 28
+
+-- a stored block takes its bytes and a trailer of five
+abbrev pub stored_length : List ℕ → ℕ
+stored_length block = length block + 5
+
+-- the stored data blocks
+abbrev pub data_part : List (List Entry) → List ℕ
+data_part blocks = flat_map (λ block. frame_of (data_block block)) blocks
+
+-- the index row of a data block that stands at this place: its last key leads to it
+abbrev pub index_row : ℕ → List Entry → Row
+index_row at block =
+    record { key = last_key [] (rows_of block); value = handle_spelling (record { offset = at; size = length (data_block block) }) }
+
+-- the index rows of data blocks, the first of which stands at this place
+abbrev pub index_rows : ℕ → List (List Entry) → List Row
+index_rows at [] = []
+index_rows at (block ∷ rest) = index_row at block ∷ index_rows (at + stored_length (data_block block)) rest
+
+-- the index block: a restart at each row
+abbrev pub index_block : List (List Entry) → List ℕ
+index_block blocks = block_of 1 (index_rows 0 blocks)
+
+-- the bytes of all internal keys, and of all values
+abbrev pub key_bytes : List Entry → ℕ
+key_bytes entries = sum_by (λ e. length (key_of e)) entries
+
+abbrev pub value_bytes : List Entry → ℕ
+value_bytes entries = sum_by (λ e. length e.value) entries
+
+-- a property
+abbrev pub property : List ℕ → List ℕ → Row
+property name value = record { key = name; value = value }
+
+-- the properties, in bytewise order of their names
+abbrev pub properties : Sizes → List Row
+properties sizes =
+    property (names.name_bytes name.IndexType) (fixed 4 0)
+    ∷ property names.comparator names.bytewise
+    ∷ property property_names.data_size (varint sizes.data_size)
+    ∷ property property_names.filter_size (varint 0)
+    ∷ property property_names.format_version (varint 2)
+    ∷ property (names.name_bytes name.IndexKeyIsUserKey) (varint 0)
+    ∷ property property_names.index_size (varint sizes.index_size)
+    ∷ property (names.name_bytes name.IndexValueIsDeltaEncoded) (varint 0)
+    ∷ property property_names.num_data_blocks (varint sizes.blocks)
+    ∷ property property_names.num_entries (varint sizes.entries)
+    ∷ property property_names.raw_key_size (varint sizes.keys)
+    ∷ property property_names.raw_value_size (varint sizes.values)
+    ∷ []
+
+-- the numbers of a list that was cut into these blocks
+abbrev pub sizes_of : List (List Entry) → List Entry → Sizes
+sizes_of blocks entries =
+    record {
+      data_size = length (data_part blocks);
+      index_size = stored_length (index_block blocks);
+      blocks = length blocks;
+      entries = length entries;
+      keys = key_bytes entries;
+      values = value_bytes entries;
+    }
+
+-- where the index block stands: behind the stored data blocks
+abbrev pub index_place : List ℕ → Sizes → Handle
+index_place index sizes = record { offset = sizes.data_size; size = length index }
+
+-- what stands behind the stored data blocks, by the bytes of the index block: this, and then the end of a file of version 2
+-- with these properties, which is properties block, metaindex block and footer
+abbrev pub end_of : List ℕ → Sizes → List ℕ
+end_of index sizes = frame_of index ++ ending_of (sizes.data_size + sizes.index_size) 2 (index_place index sizes) (properties sizes)
+
+-- the same of blocks
+abbrev pub end_part : List (List Entry) → Sizes → List ℕ
+end_part blocks sizes = end_of (index_block blocks) sizes
+
+-- the bytes of the file of a list that was cut into these blocks
+abbrev pub file_of_blocks : List (List Entry) → List Entry → List ℕ
+file_of_blocks blocks entries = data_part blocks ++ end_part blocks (sizes_of blocks entries)
+
+-- the bytes of the file of a list
+unfoldable pub table_of : BbtOptions → List Entry → List ℕ
+table_of options entries = file_of_blocks (blocks_for options.block_size entries) entries
+
+-- the file is the one that is written for the list, and it stands for it
+pub record Written (options : BbtOptions) (file : List ℕ) (entries : List Entry) : Type 0 where
+  pub bytes : file ≡ table_of options entries
+  pub stands : BlockBased file entries

@@ -1,7 +1,0 @@
-use Rattle.std.proofs.Common.{refl}
-use Rattle.sst_cli.proofs.Finishing.{after-none}
-use Rattle.sst_cli.proofs.bbt_writer.BbtWriter.new.Goals as goal
-
-pub returns-clause-after : goal.returns-clause-after
-returns-clause-after c =
-    after-none _ refl c.in_ok-data_block.ensures refl c.in_ok-index_block.ensures refl refl c.new.ensures.items refl refl refl refl

@@ -1,5 +1,0 @@
-use Rattle.sst_cli.proofs.Cut.{cut_found}
-use Rattle.sst_cli.proofs.cuts.first_place.Goals as goal
-
-pub returns : goal.returns
-returns c = cut_found c.args.byte c.args.text.now c.memchr.result c.memchr.ensures

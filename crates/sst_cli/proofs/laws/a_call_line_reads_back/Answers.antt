@@ -1,5 +1,0 @@
-use Rattle.sst_cli.proofs.CallRoundTrip.{call_of_line-call_line}
-use Rattle.sst_cli.proofs.laws.a_call_line_reads_back.Goals as goal
-
-pub returns : goal.returns
-returns c = call_of_line-call_line

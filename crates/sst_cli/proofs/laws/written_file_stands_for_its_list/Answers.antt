@@ -1,5 +1,0 @@
-use Rattle.sst_cli.proofs.Stands.{table_is_written}
-use Rattle.sst_cli.proofs.laws.written_file_stands_for_its_list.Goals as goal
-
-pub returns : goal.returns
-returns c = table_is_written

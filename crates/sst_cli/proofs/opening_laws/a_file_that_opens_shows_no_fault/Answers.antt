@@ -1,5 +1,0 @@
-use Rattle.sst_cli.proofs.NoFault.{no-fault, either}
-use Rattle.sst_cli.proofs.opening_laws.a_file_that_opens_shows_no_fault.Goals as goal
-
-pub returns : goal.returns
-returns c = record { none = no-fault; either = either }

@@ -1,9 +1,0 @@
-use Rattle.sst_cli.specs.Written.{table_of}
-use Rattle.sst_cli.proofs.BlocksOpened.{blocks_read-opens}
-use Rattle.sst_cli.proofs.Stands.{stands}
-use Rattle.sst_cli.proofs.opening_laws.a_written_file_reads_back.Goals as goal
-
-pub returns : goal.returns
-returns c = λ options entries fits.
-    let file = stands options entries fits in
-    (file.blocks, blocks_read-opens (table_of options entries) file.blocks file.opens, file.runs.joined_is)

@@ -1,0 +1,4 @@
+//! The commands, a file each.
+pub mod calls;
+pub mod produce;
+pub mod write;

@@ -1,0 +1,14 @@
+pub mod CallRoundTrip
+pub mod CallTexts
+pub mod Cut
+pub mod DecimalDigits
+pub mod Digits
+pub mod EntryLines
+pub mod FieldBytes
+pub mod FieldTexts
+pub mod LineEnds
+pub mod LineRoundTrip
+pub mod LineTexts
+pub mod PastLine
+pub mod ReadOn
+pub mod Refill

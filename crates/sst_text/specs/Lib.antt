@@ -1,0 +1,7 @@
+pub mod CallText
+pub mod EntryText
+pub mod LineFields
+pub mod Lines
+pub mod ReplyText
+pub mod Taken
+pub mod Texts

@@ -1,0 +1,7 @@
+-- What the code's fields of a line are.
+use Rattle.sst_text.specs.declared.entry_line.Fields as code
+use Rattle.sst_text.specs.Texts.{Fields}
+
+-- the fields without where they lie in memory
+abbrev pub seen : code.Fields → Fields
+seen f = record { user = f.user.now; seq = f.seq; kind = f.kind; value = f.value.now }
