@@ -65,7 +65,7 @@ seek_passed blocks user seq = passed (is_separator_before user (seek_tag seq)) (
 abbrev pub seek_for_prev_passed : List IndexedBlock → List ℕ → ℕ → Option ℕ
 seek_for_prev_passed blocks user seq = passed (is_separator_before user (seek_for_prev_tag seq)) (is_up_to_target user seq) blocks
 
--- where Seek lands: behind the entries that it passed, be it in the next block; nowhere where every separator is before
+-- where Seek lands: after the entries that it passed, be it in the next block; nowhere where every separator is before
 -- RocksDB: SeekImpl, FindBlockForward
 abbrev pub way_seek : List IndexedBlock → List ℕ → ℕ → Option ℕ
 way_seek blocks user seq = option_and_then (λ n. place_in (joined blocks) n) (seek_passed blocks user seq)
@@ -101,14 +101,14 @@ way_answer blocks position (SeekForPrev target) = lands (way_seek_for_prev block
 way_answer blocks position Next = steps_on (joined blocks) position
 way_answer blocks position Prev = steps_back position
 
--- what the calls of a row answer, from a position on
+-- what a sequence of calls answers, from a position on
 -- Pinned by: the_way_is_the_lists, one_block_twice
 abbrev pub way_replies_from : List IndexedBlock → Option ℕ → List Call → List Answer
 way_replies_from blocks position [] = []
 way_replies_from blocks position (call ∷ calls) =
     way_answer blocks position call ∷ way_replies_from blocks (way_answer blocks position call).position calls
 
--- what the calls of a row answer, from nowhere on
+-- what a sequence of calls answers, from nowhere on
 -- Pinned by: the_way_is_the_lists, one_block_twice
 abbrev pub way_replies : List IndexedBlock → List Call → List Answer
 way_replies blocks calls = way_replies_from blocks None calls
@@ -125,7 +125,7 @@ IsUpToSeparator separator e = internal_cmp (key_of e) separator ≢ Greater
 abbrev pub IsAfterSeparator : List ℕ → Entry → Type 0
 IsAfterSeparator separator e = internal_cmp separator (key_of e) ≡ Less
 
--- the separators separate: no entry of a block is after its separator, and each entry of the blocks behind it is
+-- the separators separate: no entry of a block is after its separator, and each entry of the blocks after it is
 -- Pinned by: the_way_is_the_lists, a_file_that_stands_is_separated, a_key_between_separates
 abbrev pub Separate : List IndexedBlock → Type 0
 Separate [] = Unit {0}

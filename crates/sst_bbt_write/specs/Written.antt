@@ -113,13 +113,13 @@ sizes_of blocks entries =
       values = value_bytes entries;
     }
 
--- where the index block stands: behind the stored data blocks
+-- where the index block stands: after the stored data blocks
 -- Pinned by: written_file_stands_for_its_list, the_file_of_a_line
 abbrev pub index_place : List ℕ → Sizes → Handle
 index_place index sizes = record { offset = sizes.data_size; size = length index }
 
--- what stands behind the stored data blocks, by the bytes of the index block: this, and then the end of a file of version 2
--- with these properties, which is properties block, metaindex block and footer
+-- what stands after the stored data blocks, by the bytes of the index block: this, and then the end of a file of version
+-- 2 with these properties, which is properties block, metaindex block and footer
 -- Pinned by: written_file_stands_for_its_list, the_file_of_a_line, the_empty_list
 abbrev pub end_of : List ℕ → Sizes → List ℕ
 end_of index sizes = frame_of index ++ ending_of (sizes.data_size + sizes.index_size) 2 (index_place index sizes) (properties sizes)

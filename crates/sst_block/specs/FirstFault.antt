@@ -1,4 +1,4 @@
--- The first fault of a block, told by the rows and restarts that its bytes spell and not by reading them. Sound rows
+-- The first damage of a block, said by the rows and restarts that its bytes spell and not by reading them. Sound rows
 -- stand before a faulty one, and sound rows and restarts before a faulty restart.
 -- RocksDB: the layout at the top of table/block_based/block_builder.cc, and the checks of DecodeEntry in
 -- table/block_based/block.cc. What is refused beyond RocksDB's checks is this project's own.
@@ -66,7 +66,7 @@ HasHandles Entries = ⊥
 HasHandles Names = ⊥
 HasHandles (Index user_key delta) = Unit {0}
 
--- behind the good rows the bytes begin, at this place, with a row that has the fault. Of two faults of one row the
+-- after the good rows the bytes begin, at this place, with a row that has the damage. Of two damages of one row the
 -- first is that of its lengths, then what the form says, then the order.
 -- Own.
 -- Pinned by: first_fault_is_first, bad_kinds, handles
@@ -82,7 +82,7 @@ IsRowFault form good at bytes (BadRestart i) = ⊥
 IsRowFault form good at bytes BadFooter = ⊥
 IsRowFault form good at bytes (BadHash place) = ⊥
 
--- the bytes hold sound rows, and then one that has the fault; `end` is what follows the rows
+-- the bytes hold sound rows, and then one that has the damage; `end` is what follows the rows
 -- Own.
 pub record HasFaultyRow (form : RowForm) (bytes : List ℕ) (fault : BlockFault) : Type 0 where
   pub count : ℕ
@@ -114,7 +114,7 @@ pub record HasFaultyRestart (form : RowForm) (bytes : List ℕ) (i : ℕ) : Type
   pub kept : 0 < i → AreRestarts restarts spelled
   pub broken : (restart : ℕ) (after : List ℕ) → restart < 2 ^ 32 → rest ≡ fixed 4 restart ++ after → AreRestarts (restarts ++ restart ∷ []) spelled → ⊥
 
--- the fault is the first that the bytes have: the footer comes first, then the rows, then the restarts
+-- the damage is the first that the bytes have: the footer comes first, then the rows, then the restarts
 -- Own.
 abbrev pub IsFirstFault : RowForm → List ℕ → BlockFault → Type 0
 IsFirstFault form bytes BadFooter = (count : ℕ) → HasFooter bytes count → ⊥

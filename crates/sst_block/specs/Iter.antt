@@ -5,7 +5,7 @@ use Rattle.sst_block.specs.declared.iter.BlockIter.{BlockIter}
 use Rattle.sst_block.specs.Block.{Row, Spelled}
 use Rattle.sst_block.specs.Reading.{row_at}
 
--- the bytes are these rows, one behind the other; `before` is the key before the first
+-- the bytes are these rows, one after the other; `before` is the key before the first
 -- RocksDB: block.cc, ParseNextKey
 -- Pinned by: next.moves, walked_as_built
 abbrev pub AreRows : List ℕ → List ℕ → List Row → Type 0

@@ -1,4 +1,4 @@
--- What the bytes of a block read as: its rows, or its first fault. The faults come in this order: the footer, which
+-- What the bytes of a block read as: its rows, or its first damage. The damages come in this order: the footer, which
 -- says how many restarts there are; the rows, one by one; the restarts, one by one.
 -- RocksDB: DecodeEntry and CheckAndDecodeEntry in table/block_based/block.cc, Block::NumRestarts in
 -- table/block_based/block.cc. RocksDB checks less: what more is refused here is this project's own.
@@ -26,7 +26,7 @@ pub record Lengths : Type 0 where
   pub value : ℕ
   pub used : ℕ
 
--- three varints, one behind the other
+-- three varints, one after the other
 -- Pinned by: reading_finds_exactly_the_rows, bad_rows
 unfoldable pub lengths_at : List ℕ → Option Lengths
 lengths_at bytes =
@@ -109,14 +109,14 @@ is_after form (Some before) key = is_lt (key_cmp form before key)
 abbrev pub order_fault : RowForm → ℕ → Option (List ℕ) → Row → Option BlockFault
 order_fault form at before row = if is_after form before row.key then None else Some (Disorder at)
 
--- one fault, or else another
+-- one damage, or else another
 -- Own.
 -- Pinned by: first_fault_is_first
 abbrev pub or_fault : Option BlockFault → Option BlockFault → Option BlockFault
 or_fault None next = next
 or_fault (Some fault) next = Some fault
 
--- the first fault of a row whose lengths are good: its key is too short for a tag, what the form says, the order
+-- the first damage of a row whose lengths are good: its key is too short for a tag, what the form says, the order
 -- Own.
 -- Pinned by: first_fault_is_first
 abbrev pub row_fault : RowForm → ℕ → Option (List ℕ) → Row → Option BlockFault
@@ -131,19 +131,19 @@ abbrev pub key_before : Option (List ℕ) → List ℕ
 key_before None = []
 key_before (Some key) = key
 
--- a value, or the fault
+-- a value, or the damage
 -- Own.
 abbrev pub unless : {A : Type 0} → A → Option BlockFault → Result A BlockFault
 unless x None = Ok x
 unless x (Some fault) = Err fault
 
--- the next step, if the one before found no fault
+-- the next step, if the one before found no damage
 -- Own.
 abbrev pub then_read : {A B : Type 0} → Result A BlockFault → (A → Result B BlockFault) → Result B BlockFault
 then_read (Ok x) next = next x
 then_read (Err fault) next = Err fault
 
--- the row at the front, if it has no fault
+-- the row at the front, if it has no damage
 -- Own.
 -- Pinned by: first_fault_is_first, bad_rows
 abbrev pub sound_row : RowForm → ℕ → Option (List ℕ) → Option (Spelled × ℕ) → Result (Spelled × ℕ) BlockFault
@@ -201,7 +201,7 @@ rows_end bytes count = length bytes - 4 - 4 * count
 abbrev pub may_follow : List ℕ → ℕ → ℕ → Bool
 may_follow fresh before restart = nat_lt before restart && list_any (nat_eq restart) fresh
 
--- a fault where there is no number, else what comes of the number
+-- a damage where there is no number, else what comes of the number
 -- Own.
 -- Pinned by: first_fault_is_first, restarts
 abbrev pub by_number : BlockFault → Option ℕ → (ℕ → Option BlockFault) → Option BlockFault
@@ -226,19 +226,19 @@ restarts_fault fresh zero bytes = None
 restarts_fault fresh (suc n) bytes =
     by_number (BadRestart 0) (number_where (λ first. first == 0) bytes) (λ first. restart_fault fresh n 1 first (drop 4 bytes))
 
--- the rows, if the restarts have no fault
+-- the rows, if the restarts have no damage
 -- Own.
 abbrev pub with_restarts : ℕ → List ℕ → List Spelled → Result (List Spelled) BlockFault
 with_restarts count bytes spelled = unless spelled (restarts_fault (fresh_starts 0 spelled) count bytes)
 
--- the rows before so many restarts, or the first fault
+-- the rows before so many restarts, or the first damage
 -- Own.
 abbrev pub parts_read : RowForm → List ℕ → Option ℕ → Result (List Spelled) BlockFault
 parts_read form bytes None = Err BadFooter
 parts_read form bytes (Some count) =
     then_read (rows_read form (take (rows_end bytes count) bytes)) (with_restarts count (drop (rows_end bytes count) bytes))
 
--- the rows of a block, or its first fault: of the footer, the rows, the restarts
+-- the rows of a block, or its first damage: of the footer, the rows, the restarts
 -- Own.
 unfoldable pub block_read : RowForm → List ℕ → Result (List Spelled) BlockFault
 block_read form bytes = parts_read form bytes (restart_count bytes)
@@ -251,7 +251,7 @@ pub record Reads (form : RowForm) (bytes : List ℕ) (rows : List Row) : Type 0 
   pub reads : block_read form bytes ≡ Ok spelled
   pub are_rows : map (λ (s : Spelled). s.row) spelled ≡ rows
 
--- an answer is what was read: the number of rows, or the first fault; want of memory says nothing
+-- an answer is what was read: the number of rows, or the first damage; out of memory says nothing
 -- Own.
 -- Pinned by: open.told
 abbrev pub Gives : Result ℕ (Refused BlockFault) → Result (List Spelled) BlockFault → Type 0

@@ -47,7 +47,7 @@ Each Is entries = (j : ℕ) (e : Entry) → slice_get entries j ≡ Some e → I
 abbrev pub EachAhead : (Entry → Type 0) → List Entry → ℕ → Type 0
 EachAhead Is entries i = (j : ℕ) (e : Entry) → j < i → slice_get entries j ≡ Some e → Is e
 
--- it holds of each entry behind the place
+-- it holds of each entry after the place
 -- Own.
 abbrev pub EachBehind : (Entry → Type 0) → List Entry → ℕ → Type 0
 EachBehind Is entries i = (j : ℕ) (e : Entry) → i < j → slice_get entries j ≡ Some e → Is e

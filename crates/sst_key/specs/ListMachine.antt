@@ -77,7 +77,7 @@ first_of entries = place_in entries 0
 abbrev pub last_of : List Entry → Option ℕ
 last_of entries = place_before (length entries)
 
--- where Seek lands: behind all entries that are before the target
+-- where Seek lands: after all entries that are before the target
 -- RocksDB: include/rocksdb/iterator.h, Seek
 -- Pinned by: seek_lands_on_the_first_not_before, one_user_key
 abbrev pub seek_of : List Entry → List ℕ → ℕ → Option ℕ
@@ -107,7 +107,7 @@ prev_of i = place_before i
 abbrev pub is_of_user : List ℕ → Entry → Bool
 is_of_user user e = bytes_eq e.user user
 
--- what Get shows: the entry behind all that are before the target, if it has the target's user key
+-- what Get shows: the entry after all that are before the target, if it has the target's user key
 -- RocksDB: include/rocksdb/db.h, DB::Get
 -- Pinned by: get_shows_the_newest, one_user_key
 abbrev pub get_of : List Entry → List ℕ → ℕ → Option ℕ
@@ -204,7 +204,7 @@ abbrev pub answer_of : Format → ℕ → List Entry → Option ℕ → Call →
 answer_of format prefix entries position call =
     if lacks format call then lacking position else answer_to format prefix entries position call
 
--- what the calls of a row answer, from a position on
+-- what a sequence of calls answers, from a position on
 -- RocksDB: include/rocksdb/db.h, iterator.h
 -- Pinned by: first_and_next_go_through, the_way_is_the_lists.replies
 abbrev pub replies_from : Format → ℕ → List Entry → Option ℕ → List Call → List Answer
@@ -213,7 +213,7 @@ replies_from format prefix entries position (call ∷ calls) =
     answer_of format prefix entries position call
     ∷ replies_from format prefix entries (answer_of format prefix entries position call).position calls
 
--- what the calls of a row answer, from nowhere on
+-- what a sequence of calls answers, from nowhere on
 -- RocksDB: include/rocksdb/db.h, iterator.h
 -- Pinned by: first_and_next_go_through, the_way_is_the_lists.replies
 abbrev pub replies : Format → ℕ → List Entry → List Call → List Answer

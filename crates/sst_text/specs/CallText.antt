@@ -1,4 +1,4 @@
--- The text of a call: one line of a name and, for three of the names, a target of two fields, each parted from the
+-- The text of a call: one line of a name and, for three of the names, a target of two fields, each separated from the
 -- next by one blank. These texts are this project's own. The calls are those of RocksDB's `DB::Get` in
 -- include/rocksdb/db.h and of `Iterator` in include/rocksdb/iterator.h.
 -- Pinned by: a_call_line_reads_back, a_call_line_is_that_of_its_call

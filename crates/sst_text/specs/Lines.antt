@@ -4,7 +4,7 @@ use Rattle.sst_text.specs.declared.lines.Found.{Found}
 use Rattle.sst_text.specs.declared.lines.Found.TheVariants.{Line, Long, Unended, End}
 use Rattle.sst_text.specs.Texts.{cut}
 
--- no byte is left, where that is told
+-- no byte is left, where that is modelled
 -- Pinned by: add_lines.ok, read_calls.ok
 abbrev pub IsRead : Option (List ℕ) → Type 0
 IsRead left = IfSome left (λ rest. rest ≡ [])

@@ -1,4 +1,4 @@
--- The text of an entry: one line of four fields, each parted from the next by one blank. These texts are this
+-- The text of an entry: one line of four fields, each separated from the next by one blank. These texts are this
 -- project's own. A user key or a value is in hex digits of either case, `-` where it is empty.
 -- Pinned by: an_entry_line_reads_back, an_entry_line_is_that_of_its_entry
 use Rattle.std.specs.Prelude.{ℕ, ◌+◌, ◌-◌, ◌*◌, ◌^◌, ◌==◌, nat_lt, if◌then◌else◌, List, [], ◌∷◌, Option, Some, None, option_and_then}
