@@ -1,4 +1,5 @@
 -- What the calls of a reader's cursor come to, by the list machine.
+-- Pinned by: run.answered
 use Rattle.std.specs.Prelude.{◌≡◌, ℕ, ◌<◌, List, length, Option, None, Some, option_and_then, slice_get}
 use Rattle.std.specs.Option.{option_map}
 use Rattle.sst_key.specs.declared.entries.Entry.{Entry}
@@ -8,6 +9,8 @@ use Rattle.sst_key.specs.declared.calls.Answer.{Answer}
 use Rattle.sst_key.specs.Entry.{entry_of}
 
 -- the cursor stands on an entry of the list, or nowhere
+-- RocksDB: include/rocksdb/iterator.h, Valid
+-- Pinned by: next.exact
 abbrev pub Belongs : List Entry → Option ℕ → Type 0
 Belongs entries None = Unit {0}
 Belongs entries (Some i) = i < length entries
@@ -17,6 +20,7 @@ abbrev pub Comes : Reply → Option ℕ → Answer → Type 0
 Comes reply place answer = (reply ≡ answer.reply) × (place ≡ answer.position)
 
 -- the entry that an answer shows
+-- Pinned by: seventeen_entries
 abbrev pub entry_shown : List Entry → Answer → Option Entry
 entry_shown entries answer = option_and_then (λ i. slice_get entries i) answer.shown
 

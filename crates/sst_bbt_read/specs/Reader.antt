@@ -1,4 +1,5 @@
 -- What opening a file answers of what the file reads as. Where a device failed or memory ran out an answer says nothing.
+-- Pinned by: open.told
 use Rattle.std.specs.Prelude.{◌≡◌, ℕ, ◌<◌, List, ◌++◌, length, Result, Ok, Err}
 use Rattle.sst_key.specs.declared.entries.Entry.{Entry}
 use Rattle.sst_num.specs.declared.stops.Stop.{Stop}
@@ -8,6 +9,7 @@ use Rattle.sst_bbt_read.specs.Opening.{RowBlock}
 use Rattle.sst_bbt_read.specs.declared.bbt_fault.BbtFault.{BbtFault}
 
 -- an answer has the blocks that were read, or is the first fault
+-- Pinned by: run.answered, run.damaged
 abbrev pub Opened : Result OpenTable (Stop BbtFault) → Result (List RowBlock) BbtFault → Type 0
 Opened (Ok table) read = read ≡ Ok (row_blocks_of (blocks_of table))
 Opened (Err (Damage fault)) read = read ≡ Err fault

@@ -14,6 +14,7 @@ use Rattle.sst_bbt_spec.specs.Way.{IndexedBlock}
 
 -- The file opens to these data blocks: what it says of itself and all its blocks are good. Nothing is said of the
 -- separators: where they don't separate, the file opens, and a target leads where its index does (Way).
+-- Pinned by: a_file_opens_to_its_blocks
 pub record Opens (file : List ℕ) (blocks : List IndexedBlock) : Type 0 where
   pub loaded : Loaded
   pub meta : Meta file loaded
@@ -23,7 +24,8 @@ pub record Opens (file : List ℕ) (blocks : List IndexedBlock) : Type 0 where
   pub index_is : Block (Index false false) index_block index_rows
   pub lead : Lead file (footer_start file) index_rows blocks
 
--- the file stands for the list
+-- the file stands for the list: it opens to blocks through which the list runs
+-- Pinned by: a_file_that_stands_is_separated, written_file_stands_for_its_list, a_separated_file_stands
 pub record BlockBased (file : List ℕ) (entries : List Entry) : Type 0 where
   pub blocks : List IndexedBlock
   pub opens : Opens file blocks

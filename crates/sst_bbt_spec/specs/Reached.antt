@@ -1,5 +1,6 @@
 -- The index and data blocks of a block-based file that its footer and its index lead to.
 -- RocksDB: BlockBasedTable::Open and NewDataBlockIterator in table/block_based/block_based_table_reader.cc.
+-- Pinned by: a_fault_is_shown, a_file_that_opens_shows_no_fault
 use Rattle.std.specs.Prelude.{◌≡◌, ℕ, false, List, Contains}
 use Rattle.sst_num.specs.Spelling.{handle_spelling}
 use Rattle.sst_num.specs.declared.block_handle.Handle.{Handle}

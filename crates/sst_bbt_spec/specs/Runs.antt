@@ -1,6 +1,7 @@
 -- The data blocks of a block-based file, to which the rows of its index lead, and the list that runs through them.
 -- RocksDB: wiki page "Rocksdb BlockBasedTable Format"; IndexBuilder in table/block_based/index_builder.h, which says what a
 -- separator separates. For now the index has one level, and its keys are stored keys.
+-- Pinned by: a_file_that_stands_is_separated, written_file_stands_for_its_list, a_separated_file_stands
 use Rattle.std.specs.Prelude.{◌≡◌, ◌≢◌, ℕ, ◌<◌, List, [], ◌∷◌, length, All}
 use Rattle.std.specs.declared.cmp.Ordering.TheVariants.{Less, Greater}
 use Rattle.sst_num.specs.Spelling.{handle_spelling}
@@ -16,6 +17,7 @@ use Rattle.sst_bbt_spec.specs.Rows.{HasSeq, rows_of}
 use Rattle.sst_bbt_spec.specs.Way.{IndexedBlock, joined}
 
 -- an index row leads to a data block with these entries, of which there is one at least
+-- Pinned by: a_file_opens_to_its_blocks
 pub record LeadsTo (file : List ℕ) (end : ℕ) (row : Row) (entries : List Entry) : Type 0 where
   pub handle : Handle
   pub block : List ℕ
@@ -26,6 +28,7 @@ pub record LeadsTo (file : List ℕ) (end : ℕ) (row : Row) (entries : List Ent
   pub seqs : All HasSeq entries
 
 -- the index rows lead to these data blocks, one after the other; the separator of each is the key of its row
+-- Pinned by: a_file_opens_to_its_blocks
 abbrev pub Lead : List ℕ → ℕ → List Row → List IndexedBlock → Type 0
 Lead file end [] blocks = blocks ≡ []
 Lead file end (row ∷ rows) [] = ⊥

@@ -43,7 +43,7 @@
 //!
 //! - A file opens to one list of data blocks at most, and stands for one list of entries at most
 //!   ([`a_file_stands_for_one_list`]); this list is in order ([`what_a_file_stands_for_is_ordered`]).
-//! - What the seven calls answer by the way of the index (`way_answer`, specs/Way.antt) is what they answer of the list,
+//! - What the seven calls answer by the index lookup (`way_answer`, specs/Way.antt) is what they answer of the list,
 //!   where the separators separate the blocks ([`the_way_is_the_lists`]), and so on each file that stands for a list
 //!   ([`a_file_that_stands_is_separated`]).
 //! - A file that opens to blocks which its separators separate stands for their list ([`a_separated_file_stands`]); each

@@ -10,14 +10,17 @@ use Rattle.sst_bbt_write.specs.Written.{Fits, data_part, index_rows, key_bytes, 
 use Rattle.sst_bbt_write.specs.declared.bbt_writer.BbtWriter.{BbtWriter}
 
 -- memory ran out in an earlier call
+-- Pinned by: add.memory, add.later
 abbrev pub HasFailed : BbtWriter → Type 0
 HasFailed w = w.failed ≡ true
 
 -- the blocks of the list that was added
+-- Pinned by: finish.written
 abbrev pub cut_by : BbtWriter → List Entry → Blocks
 cut_by w entries = cut_of w.options.block_size entries
 
 -- all that the writer keeps is what its options give once the list was added and these bytes were appended
+-- Pinned by: add.ok, finish.written
 pub record After (w : BbtWriter) (entries : List Entry) (bytes : List ℕ) : Type 0 where
   pub sound : w.failed ≡ false
   -- the block that isn't ended
@@ -37,5 +40,6 @@ pub record After (w : BbtWriter) (entries : List Entry) (bytes : List ℕ) : Typ
   pub fits : Fits entries
 
 -- the writer has failed, or some list was added to it
+-- Pinned by: finish.written, a_list_as_heavy_as_it_may_be
 abbrev pub IsInUse : BbtWriter → Type 0
 IsInUse w = HasFailed w ⊎ ((entries : List Entry) × (bytes : List ℕ) × After w entries bytes)

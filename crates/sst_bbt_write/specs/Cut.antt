@@ -3,25 +3,32 @@
 -- RocksDB: FlushBlockBySizePolicy::Update in table/block_based/flush_block_policy.cc; option `block_size` in
 -- include/rocksdb/table.h. RocksDB also looks ahead to the next entry; ending a block by what it has alone is this
 -- project's own.
+-- Pinned by: a_list_is_cut_where_blocks_are_full
 use Rattle.std.specs.Prelude.{◌≡◌, ℕ, ◌<◌, ◌&&◌, nat_lt, nat_le, Bool, if◌then◌else◌, List, [], ◌∷◌, ◌++◌, length, IsTrue}
 use Rattle.sst_key.specs.declared.entries.Entry.{Entry}
 use Rattle.sst_block.specs.Chosen.{block_of}
 use Rattle.sst_bbt_spec.specs.Rows.{rows_of}
 
 -- a data block: a restart at each 16th entry
+-- Own choice.
+-- Pinned by: a_second_restart
 abbrev pub data_block : List Entry → List ℕ
 data_block entries = block_of 16 (rows_of entries)
 
 -- the blocks that were ended, and the entries of the one that wasn't
+-- Own.
+-- Pinned by: forty_entries
 pub record Blocks : Type 0 where
   pub ended : List (List Entry)
   pub current : List Entry
 
 -- the block has an entry, and so many bytes or more
+-- Pinned by: a_block_for_each_version, forty_entries
 abbrev pub is_full : ℕ → List Entry → Bool
 is_full limit block = nat_lt 0 (length block) && nat_le limit (length (data_block block))
 
 -- one entry more
+-- Pinned by: a_list_is_cut_where_blocks_are_full, forty_entries
 abbrev pub add_entry : ℕ → Blocks → Entry → Blocks
 add_entry limit blocks e =
     if is_full limit blocks.current
@@ -29,6 +36,7 @@ add_entry limit blocks e =
     else record { ended = blocks.ended; current = blocks.current ++ e ∷ [] }
 
 -- a list of entries, one by one
+-- Pinned by: a_list_is_cut_where_blocks_are_full, forty_entries
 abbrev pub cut_from : ℕ → Blocks → List Entry → Blocks
 cut_from limit blocks [] = blocks
 cut_from limit blocks (e ∷ rest) = cut_from limit (add_entry limit blocks e) rest
@@ -37,24 +45,31 @@ unfoldable pub cut_of : ℕ → List Entry → Blocks
 cut_of limit entries = cut_from limit (record { ended = []; current = [] }) entries
 
 -- the current block is ended with the list, if it has an entry
+-- RocksDB: Finish
+-- Pinned by: a_list_is_cut_where_blocks_are_full, the_empty_list
 abbrev pub ended_all : Blocks → List (List Entry)
 ended_all blocks = blocks.ended ++ (if nat_lt 0 (length blocks.current) then blocks.current ∷ [] else [])
 
 -- the data blocks of a list
+-- RocksDB: Finish
+-- Pinned by: a_list_is_cut_where_blocks_are_full, the_empty_list
 unfoldable pub blocks_for : ℕ → List Entry → List (List Entry)
 blocks_for limit entries = ended_all (cut_of limit entries)
 
 -- all entries of some blocks
+-- Own.
 abbrev pub entries_in : List (List Entry) → List Entry
 entries_in [] = []
 entries_in (block ∷ rest) = block ++ entries_in rest
 
 -- no front of the block that is shorter than it is full
+-- Own.
 abbrev pub IsLean : ℕ → List Entry → Type 0
 IsLean limit block = (front back : List Entry) → block ≡ front ++ back → 0 < length back → IsTrue (is_full limit front) → ⊥
 
 -- The blocks in their own words: each has an entry, none has an entry more than it takes to be full, and each but the
 -- last is full.
+-- Own.
 abbrev pub AreBlocks : ℕ → List (List Entry) → Type 0
 AreBlocks limit [] = Unit {0}
 AreBlocks limit (block ∷ []) = (0 < length block) × IsLean limit block

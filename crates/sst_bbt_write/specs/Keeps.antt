@@ -1,5 +1,6 @@
 -- What a block-based writer keeps of a list, however it is cut into blocks: so it stands between the steps of one call too.
 -- RocksDB: BlockBasedTableBuilder::Rep in table/block_based/block_based_table_builder.cc.
+-- Pinned by: add.ok, finish.written
 use Rattle.std.specs.Prelude.{◌≡◌, ℕ, ◌<◌, nat_lt, if◌then◌else◌, false, List, [], ◌∷◌, ◌++◌, length, All}
 use Rattle.sst_key.specs.declared.entries.Entry.{Entry}
 use Rattle.sst_key.specs.Entry.{weight}
@@ -11,10 +12,13 @@ use Rattle.sst_bbt_write.specs.Written.{Fits, data_part, index_rows, key_bytes, 
 use Rattle.sst_bbt_write.specs.declared.bbt_writer.BbtWriter.{BbtWriter}
 
 -- the block has an entry
+-- Own.
+-- Pinned by: finish.written
 abbrev pub HasEntry : List Entry → Type 0
 HasEntry block = 0 < length block
 
 -- all that the writer keeps is what the list gives, cut into these blocks, and these bytes were appended
+-- For proofs alone.
 pub record Keeps (w : BbtWriter) (cut : Blocks) (entries : List Entry) (bytes : List ℕ) : Type 0 where
   pub sound : w.failed ≡ false
   -- the blocks are the list, and each that is ended has an entry
@@ -37,21 +41,26 @@ pub record Keeps (w : BbtWriter) (cut : Blocks) (entries : List Entry) (bytes : 
   pub fits : Fits entries
 
 -- the writer keeps some list
+-- For proofs alone.
 abbrev pub KeepsSome : BbtWriter → Type 0
 KeepsSome w = (cut : Blocks) × (entries : List Entry) × (bytes : List ℕ) × Keeps w cut entries bytes
 
 -- the block is ended, and none is begun
+-- RocksDB: Flush, Finish
 abbrev pub ended_now : Blocks → Blocks
 ended_now cut = record { ended = cut.ended ++ cut.current ∷ []; current = [] }
 
 -- the block is ended, if it has an entry
+-- RocksDB: Flush, Finish
 abbrev pub ended_last : Blocks → Blocks
 ended_last cut = if nat_lt 0 (length cut.current) then ended_now cut else cut
 
 -- the block is ended, if it is full
+-- RocksDB: Flush, Finish
 abbrev pub with_room : ℕ → Blocks → Blocks
 with_room limit cut = if is_full limit cut.current then ended_now cut else cut
 
 -- the block has an entry more
+-- RocksDB: Flush, Finish
 abbrev pub with_entry : Blocks → Entry → Blocks
 with_entry cut e = record { ended = cut.ended; current = cut.current ++ e ∷ [] }

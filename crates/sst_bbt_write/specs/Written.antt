@@ -2,6 +2,7 @@
 -- RocksDB: BlockBasedTableBuilder::Add and Finish in table/block_based/block_based_table_builder.cc; PropertyBlockBuilder
 -- and MetaIndexBuilder in table/meta_blocks.cc. The choices are this project's own. For now each separator is the last key
 -- of its block.
+-- Pinned by: forty_entries
 use Rattle.std.specs.Prelude.{◌≡◌, ℕ, ◌+◌, ◌^◌, ◌≤◌, List, [], ◌∷◌, ◌++◌, length, sum_by, All}
 use Rattle.std.specs.List.{flat_map}
 use Rattle.sst_num.specs.Spelling.{fixed, varint, handle_spelling}
@@ -23,40 +24,51 @@ use Rattle.sst_bbt_write.specs.declared.bbt_options.BbtOptions.{BbtOptions}
 use Rattle.sst_bbt_write.specs.declared.properties.Sizes.{Sizes}
 
 -- an entry is within the limits of each entry alone
+-- Pinned by: add.ok, a_list_reads_back, keys_and_values_at_their_limits, what_a_text_says_fits
 pub record IsInLimits (e : Entry) : Type 0 where
   pub key : length e.user ≤ 65536
   pub value : length e.value ≤ 16777216
   pub seq : HasSeq e
 
 -- a list that is written: it increases, each entry is within its limits, and so is their weight
+-- Own.
+-- Pinned by: add.ok, a_list_reads_back, what_a_text_says_fits
 pub record Fits (entries : List Entry) : Type 0 where
   pub ordered : IsOrdered entries
   pub limits : All IsInLimits entries
   pub light : weight entries ≤ 2 ^ 28
 
 -- a stored block takes its bytes and a trailer of five
+-- RocksDB: block_based_table_reader.h, kBlockTrailerSize
 abbrev pub stored_length : List ℕ → ℕ
 stored_length block = length block + 5
 
 -- the stored data blocks
+-- Own choice.
 abbrev pub data_part : List (List Entry) → List ℕ
 data_part blocks = flat_map (λ block. frame_of (data_block block)) blocks
 
 -- the index row of a data block that stands at this place: its last key leads to it
+-- Own choice, for now.
 abbrev pub index_row : ℕ → List Entry → Row
 index_row at block =
     record { key = last_key [] (rows_of block); value = handle_spelling (record { offset = at; size = length (data_block block) }) }
 
 -- the index rows of data blocks, the first of which stands at this place
+-- Own choice, for now.
 abbrev pub index_rows : ℕ → List (List Entry) → List Row
 index_rows at [] = []
 index_rows at (block ∷ rest) = index_row at block ∷ index_rows (at + stored_length (data_block block)) rest
 
 -- the index block: a restart at each row
+-- Own choice.
+-- Pinned by: forty_entries, the_empty_list
 abbrev pub index_block : List (List Entry) → List ℕ
 index_block blocks = block_of 1 (index_rows 0 blocks)
 
 -- the bytes of all internal keys, and of all values
+-- RocksDB: table_properties.h, raw_key_size, raw_value_size
+-- Pinned by: forty_entries, a_block_for_each_version
 abbrev pub key_bytes : List Entry → ℕ
 key_bytes entries = sum_by (λ e. length (key_of e)) entries
 
@@ -64,10 +76,14 @@ abbrev pub value_bytes : List Entry → ℕ
 value_bytes entries = sum_by (λ e. length e.value) entries
 
 -- a property
+-- RocksDB: table/meta_blocks.cc, AddTableProperty; which they are is own
+-- Pinned by: the_file_of_a_line
 abbrev pub property : List ℕ → List ℕ → Row
 property name value = record { key = name; value = value }
 
 -- the properties, in bytewise order of their names
+-- RocksDB: table/meta_blocks.cc, AddTableProperty; which they are is own
+-- Pinned by: the_file_of_a_line
 abbrev pub properties : Sizes → List Row
 properties sizes =
     property (names.name_bytes name.IndexType) (fixed 4 0)
@@ -85,6 +101,7 @@ properties sizes =
     ∷ []
 
 -- the numbers of a list that was cut into these blocks
+-- RocksDB: table_properties.h
 abbrev pub sizes_of : List (List Entry) → List Entry → Sizes
 sizes_of blocks entries =
     record {
@@ -96,28 +113,35 @@ sizes_of blocks entries =
       values = value_bytes entries;
     }
 
--- where the index block stands: behind the stored data blocks
+-- where the index block stands: after the stored data blocks
+-- Pinned by: written_file_stands_for_its_list, the_file_of_a_line
 abbrev pub index_place : List ℕ → Sizes → Handle
 index_place index sizes = record { offset = sizes.data_size; size = length index }
 
--- what stands behind the stored data blocks, by the bytes of the index block: this, and then the end of a file of version 2
--- with these properties, which is properties block, metaindex block and footer
+-- what stands after the stored data blocks, by the bytes of the index block: this, and then the end of a file of version
+-- 2 with these properties, which is properties block, metaindex block and footer
+-- Pinned by: written_file_stands_for_its_list, the_file_of_a_line, the_empty_list
 abbrev pub end_of : List ℕ → Sizes → List ℕ
 end_of index sizes = frame_of index ++ ending_of (sizes.data_size + sizes.index_size) 2 (index_place index sizes) (properties sizes)
 
 -- the same of blocks
+-- Pinned by: written_file_stands_for_its_list, the_file_of_a_line, the_empty_list
 abbrev pub end_part : List (List Entry) → Sizes → List ℕ
 end_part blocks sizes = end_of (index_block blocks) sizes
 
 -- the bytes of the file of a list that was cut into these blocks
+-- Pinned by: written_file_stands_for_its_list, the_file_of_a_line, the_empty_list
 abbrev pub file_of_blocks : List (List Entry) → List Entry → List ℕ
 file_of_blocks blocks entries = data_part blocks ++ end_part blocks (sizes_of blocks entries)
 
 -- the bytes of the file of a list
+-- Pinned by: written_file_stands_for_its_list, forty_entries
 unfoldable pub table_of : BbtOptions → List Entry → List ℕ
 table_of options entries = file_of_blocks (blocks_for options.block_size entries) entries
 
 -- the file is the one that is written for the list, and it stands for it
+-- Own.
+-- Pinned by: finish.written, written_file_stands_for_its_list
 pub record Written (options : BbtOptions) (file : List ℕ) (entries : List Entry) : Type 0 where
   pub bytes : file ≡ table_of options entries
   pub stands : BlockBased file entries

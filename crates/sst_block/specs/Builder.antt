@@ -1,5 +1,6 @@
 -- What a builder of a block holds between its calls: the rows that were added, spelled, and what the next row
 -- needs of them. RocksDB: BlockBuilder in table/block_based/block_builder.h.
+-- Pinned by: finish.exact
 use Rattle.std.specs.Prelude.{◌≡◌, ◌⊎◌, ℕ, ◌+◌, ◌*◌, ◌^◌, ◌<◌, ◌≤◌, true, false, List, [], ◌∷◌, ◌++◌, length, All}
 use Rattle.std.specs.List.{flat_map}
 use Rattle.sst_num.specs.Spelling.{fixed}
@@ -10,6 +11,8 @@ use Rattle.sst_block.specs.Block.{Row, Spelled, common, row_spelling, IsRow, Are
 use Rattle.sst_block.specs.Chosen.{chosen, restarts_of, block_of}
 
 -- the form has no flags: its keys are stored whole and its handles stand as they are
+-- Own, for now.
+-- Pinned by: an_index_block (too strict), reading_finds_exactly_the_rows.sound (too loose)
 abbrev pub HasNoFlags : RowForm → Type 0
 HasNoFlags Entries = Unit {0}
 HasNoFlags Names = Unit {0}
@@ -18,25 +21,32 @@ HasNoFlags (Index false true) = ⊥
 HasNoFlags (Index true delta) = ⊥
 
 -- the key of the last row; `before` is the key before the rows
+-- Own.
+-- Pinned by: first_fault_is_first, a_file_that_stands_is_separated
 abbrev pub last_key : List ℕ → List Row → List ℕ
 last_key before [] = before
 last_key before (row ∷ rows) = last_key row.key rows
 
 -- the most that a row takes of a block: its key and value, three lengths and a restart
+-- For proofs alone.
+-- Pinned by: finish.written
 abbrev pub row_room : Row → ℕ
 row_room row = length row.key + length row.value + 34
 
 -- the rows as a builder spells them
+-- For proofs alone.
 abbrev pub spelled_of : ℕ → List Row → List Spelled
 spelled_of interval rows = chosen interval 0 [] rows
 
 -- of n rows `since` are in the group that the last restart began; a full group ends only at the next row
+-- For proofs alone.
 pub record Counts (interval n since : ℕ) : Type 0 where
   pub groups : ℕ
   pub whole : n ≡ groups * interval + since
   pub within : since ≤ interval
 
--- the rows may stand in a block of the form
+-- the rows may stand in a block of the form, of less than 2 ^ 29 bytes
+-- Pinned by: finish.block
 pub record MayStand (form : RowForm) (interval : ℕ) (rows : List Row) : Type 0 where
   pub least : 1 ≤ interval
   pub most : interval ≤ 65536
@@ -46,6 +56,7 @@ pub record MayStand (form : RowForm) (interval : ℕ) (rows : List Row) : Type 0
 
 -- what a builder keeps of the rows: their bytes, the restarts in four bytes each, how many those are, the key
 -- of the last row, and how many rows are in its group
+-- For proofs alone.
 pub record Keeps (interval : ℕ) (rows : List Row) (bytes restarts last : List ℕ) (count since : ℕ) : Type 0 where
   pub bytes_are : bytes ≡ flat_map row_spelling (spelled_of interval rows)
   pub restarts_are : restarts ≡ flat_map (fixed 4) (restarts_of interval (spelled_of interval rows))
@@ -56,6 +67,7 @@ pub record Keeps (interval : ℕ) (rows : List Row) (bytes restarts last : List 
 
 -- the same when the next row may be put, whichever it is: where a group was full, its restart is there and no
 -- key is shared
+-- For proofs alone.
 pub record IsReady (interval : ℕ) (rows : List Row) (bytes restarts last : List ℕ) (count since : ℕ) : Type 0 where
   pub bytes_are : bytes ≡ flat_map row_spelling (spelled_of interval rows)
   pub spelled_are : (row : Row) → spelled_of interval (rows ++ row ∷ [])
@@ -66,10 +78,14 @@ pub record IsReady (interval : ℕ) (rows : List Row) (bytes restarts last : Lis
   pub room : since < interval
 
 -- memory ran out in an earlier call
+-- Own.
+-- Pinned by: add.err, add.later
 abbrev pub HasFailed : BlockBuilder → Type 0
 HasFailed b = b.failed ≡ true
 
 -- the builder holds the rows, which were added in this order
+-- Own.
+-- Pinned by: finish.exact, finish.block
 pub record Holds (b : BlockBuilder) (form : RowForm) (interval : ℕ) (rows : List Row) : Type 0 where
   pub sound : b.failed ≡ false
   pub form_is : b.form ≡ form
@@ -78,6 +94,7 @@ pub record Holds (b : BlockBuilder) (form : RowForm) (interval : ℕ) (rows : Li
   pub fits : MayStand form interval rows
 
 -- the builder holds the rows and has made room for the next
+-- For proofs alone.
 pub record AwaitsRow (b : BlockBuilder) (form : RowForm) (interval : ℕ) (rows : List Row) : Type 0 where
   pub sound : b.failed ≡ false
   pub form_is : b.form ≡ form
@@ -86,6 +103,8 @@ pub record AwaitsRow (b : BlockBuilder) (form : RowForm) (interval : ℕ) (rows 
 
 -- the row may come after those that the builder holds: it has the form, its key is after the last, and the
 -- block stays short
+-- Own.
+-- Pinned by: add.ok
 pub record Takes (b : BlockBuilder) (row : Row) : Type 0 where
   pub form : RowForm
   pub interval : ℕ
@@ -96,5 +115,7 @@ pub record Takes (b : BlockBuilder) (row : Row) : Type 0 where
   pub short : length (block_of interval (rows ++ row ∷ [])) < 2 ^ 29
 
 -- a builder that has failed refuses each row, and any other takes those that may come next
+-- Own.
+-- Pinned by: add.ok
 abbrev pub CanAdd : BlockBuilder → Row → Type 0
 CanAdd b row = HasFailed b ⊎ Takes b row

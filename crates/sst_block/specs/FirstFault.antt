@@ -1,7 +1,8 @@
--- The first fault of a block, told by the rows and restarts that its bytes spell and not by reading them. Sound rows
+-- The first damage of a block, said by the rows and restarts that its bytes spell and not by reading them. Sound rows
 -- stand before a faulty one, and sound rows and restarts before a faulty restart.
 -- RocksDB: the layout at the top of table/block_based/block_builder.cc, and the checks of DecodeEntry in
 -- table/block_based/block.cc. What is refused beyond RocksDB's checks is this project's own.
+-- Pinned by: first_fault_is_first
 use Rattle.std.specs.Prelude.{◌≡◌, ℕ, ◌+◌, ◌*◌, ◌^◌, ◌<◌, ◌≤◌, true, List, [], ◌∷◌, ◌++◌, length, map, All}
 use Rattle.std.specs.List.{flat_map}
 use Rattle.sst_num.specs.Spelling.{fixed}
@@ -14,10 +15,13 @@ use Rattle.sst_block.specs.Builder.{last_key}
 use Rattle.sst_block.specs.Reading.{has_tag}
 
 -- the rows without their spelling
+-- Own.
 abbrev pub rows_of : List Spelled → List Row
 rows_of spelled = map (λ (s : Spelled). s.row) spelled
 
 -- the bytes end with the number of restarts, which is one at least, and have room for them before it
+-- RocksDB: block.cc, Block::NumRestarts
+-- Pinned by: first_fault_is_first, bad_footers
 pub record HasFooter (bytes : List ℕ) (count : ℕ) : Type 0 where
   pub front : List ℕ
   pub joined : bytes ≡ front ++ fixed 4 count
@@ -26,6 +30,7 @@ pub record HasFooter (bytes : List ℕ) (count : ℕ) : Type 0 where
   pub room : 4 * count ≤ length front
 
 -- the rows may stand at the front of a block of the form
+-- Own.
 pub record AreSound (form : RowForm) (spelled : List Spelled) : Type 0 where
   pub fronts : SharesFronts [] spelled
   pub forms : All (IsRow form) (rows_of spelled)
@@ -33,6 +38,8 @@ pub record AreSound (form : RowForm) (spelled : List Spelled) : Type 0 where
 
 -- the lengths of a row are good: it shares no more with the key before than they have in common, its key isn't too
 -- long, its value's length is a number of 32 bits, and a key with a tag has the eight bytes of it
+-- RocksDB: CheckAndDecodeEntry; the limit is own
+-- Pinned by: first_fault_is_first, bad_rows
 pub record HasGoodLengths (form : RowForm) (before : List ℕ) (s : Spelled) : Type 0 where
   pub shares : s.shared ≤ common before s.row.key
   pub short : length s.row.key ≤ 65544
@@ -40,24 +47,29 @@ pub record HasGoodLengths (form : RowForm) (before : List ℕ) (s : Spelled) : T
   pub tagged : has_tag form ≡ true → 8 ≤ length s.row.key
 
 -- no row with good lengths begins the bytes
+-- Own.
 abbrev pub BeginsNoRow : RowForm → List ℕ → List ℕ → Type 0
 BeginsNoRow form before bytes =
     (s : Spelled) (after : List ℕ) → bytes ≡ row_spelling s ++ after → HasGoodLengths form before s → ⊥
 
 -- the row begins the bytes, and its lengths are good
+-- Own.
 pub record BeginsRow (form : RowForm) (before bytes : List ℕ) (s : Spelled) : Type 0 where
   pub after : List ℕ
   pub joined : bytes ≡ row_spelling s ++ after
   pub lengths : HasGoodLengths form before s
 
 -- the values of the form are block handles
+-- Own.
 abbrev pub HasHandles : RowForm → Type 0
 HasHandles Entries = ⊥
 HasHandles Names = ⊥
 HasHandles (Index user_key delta) = Unit {0}
 
--- behind the good rows the bytes begin, at this place, with a row that has the fault. Of two faults of one row the
+-- after the good rows the bytes begin, at this place, with a row that has the damage. Of two damages of one row the
 -- first is that of its lengths, then what the form says, then the order.
+-- Own.
+-- Pinned by: first_fault_is_first, bad_kinds, handles
 abbrev pub IsRowFault : RowForm → List Spelled → ℕ → List ℕ → BlockFault → Type 0
 IsRowFault form good at bytes (BadRow place) = (place ≡ at) × BeginsNoRow form (last_key [] (rows_of good)) bytes
 IsRowFault form good at bytes (BadKind place) =
@@ -70,7 +82,8 @@ IsRowFault form good at bytes (BadRestart i) = ⊥
 IsRowFault form good at bytes BadFooter = ⊥
 IsRowFault form good at bytes (BadHash place) = ⊥
 
--- the bytes hold sound rows, and then one that has the fault; `end` is what follows the rows
+-- the bytes hold sound rows, and then one that has the damage; `end` is what follows the rows
+-- Own.
 pub record HasFaultyRow (form : RowForm) (bytes : List ℕ) (fault : BlockFault) : Type 0 where
   pub count : ℕ
   pub good : List Spelled
@@ -85,6 +98,8 @@ pub record HasFaultyRow (form : RowForm) (bytes : List ℕ) (fault : BlockFault)
 
 -- the bytes hold sound rows alone, and then restarts of which number i is the first that breaks a rule: those before
 -- it keep them, and with what stands in its place they don't
+-- Own.
+-- Pinned by: first_fault_is_first, restarts, restarts_of_few
 pub record HasFaultyRestart (form : RowForm) (bytes : List ℕ) (i : ℕ) : Type 0 where
   pub count : ℕ
   pub spelled : List Spelled
@@ -99,7 +114,8 @@ pub record HasFaultyRestart (form : RowForm) (bytes : List ℕ) (i : ℕ) : Type
   pub kept : 0 < i → AreRestarts restarts spelled
   pub broken : (restart : ℕ) (after : List ℕ) → restart < 2 ^ 32 → rest ≡ fixed 4 restart ++ after → AreRestarts (restarts ++ restart ∷ []) spelled → ⊥
 
--- the fault is the first that the bytes have: the footer comes first, then the rows, then the restarts
+-- the damage is the first that the bytes have: the footer comes first, then the rows, then the restarts
+-- Own.
 abbrev pub IsFirstFault : RowForm → List ℕ → BlockFault → Type 0
 IsFirstFault form bytes BadFooter = (count : ℕ) → HasFooter bytes count → ⊥
 IsFirstFault form bytes (BadRestart i) = HasFaultyRestart form bytes i

@@ -5,13 +5,16 @@ use Rattle.sst_block.specs.declared.iter.BlockIter.{BlockIter}
 use Rattle.sst_block.specs.Block.{Row, Spelled}
 use Rattle.sst_block.specs.Reading.{row_at}
 
--- the bytes are these rows, one behind the other; `before` is the key before the first
+-- the bytes are these rows, one after the other; `before` is the key before the first
+-- RocksDB: block.cc, ParseNextKey
+-- Pinned by: next.moves, walked_as_built
 abbrev pub AreRows : List ℕ → List ℕ → List Row → Type 0
 AreRows before bytes [] = bytes ≡ []
 AreRows before bytes (row ∷ rows) =
     (s : Spelled) × (used : ℕ) × (row_at before bytes ≡ Some (s, used)) × (s.row ≡ row) × AreRows row.key (drop used bytes) rows
 
 -- the walk shows this row, and these come after it
+-- Pinned by: key, value, walked_as_built
 pub record Shows (it : BlockIter) (row : Row) (more : List Row) : Type 0 where
   pub stands : it.stands ≡ true
   pub key : it.key ≡ row.key
@@ -19,15 +22,20 @@ pub record Shows (it : BlockIter) (row : Row) (more : List Row) : Type 0 where
   pub after : AreRows row.key it.after.now more
 
 -- where the walk stands: at the i-th row, from 0, or nowhere
+-- RocksDB: Valid
+-- Pinned by: next.moves, next.tells
 abbrev pub IsAt : BlockIter → List Row → Option ℕ → Type 0
 IsAt it rows None = it.stands ≡ false
 IsAt it rows (Some i) = (row : Row) × (slice_get rows i ≡ Some row) × Shows it row (drop (i + 1) rows)
 
 -- the walk goes over the rows, and stands at the place
+-- Pinned by: next.moves, key, value
 pub record Walks (it : BlockIter) (rows : List Row) (place : Option ℕ) : Type 0 where
   pub whole : AreRows [] it.rows.now rows
   pub is_at : IsAt it rows place
 
 -- the i-th row, or nowhere where there is none
+-- RocksDB: Valid
+-- Pinned by: next.moves, next.tells, walked_entries
 abbrev pub place_of : List Row → ℕ → Option ℕ
 place_of rows i = if nat_lt i (length rows) then Some i else None

@@ -1,7 +1,8 @@
--- What the bytes of a block read as: its rows, or its first fault. The faults come in this order: the footer, which
+-- What the bytes of a block read as: its rows, or its first damage. The damages come in this order: the footer, which
 -- says how many restarts there are; the rows, one by one; the restarts, one by one.
 -- RocksDB: DecodeEntry and CheckAndDecodeEntry in table/block_based/block.cc, Block::NumRestarts in
 -- table/block_based/block.cc. RocksDB checks less: what more is refused here is this project's own.
+-- Pinned by: reading_finds_exactly_the_rows, first_fault_is_first
 use Rattle.std.specs.Prelude.{◌≡◌, ℕ, zero, suc, ◌+◌, ◌-◌, ◌*◌, ◌==◌, Bool, true, false, not, ◌&&◌, nat_lt, nat_le, nat_eq, if◌then◌else◌, List, [], ◌∷◌, ◌++◌, length, take, drop, map, Option, None, Some, option_and_then, Result, Ok, Err}
 use Rattle.std.specs.List.{list_any}
 use Rattle.std.specs.Option.{is_some}
@@ -18,13 +19,15 @@ use Rattle.sst_block.specs.declared.fault.BlockFault.TheVariants.{BadRow, BadRes
 use Rattle.sst_block.specs.Block.{Row, Spelled, key_cmp, fresh_starts}
 
 -- the three lengths that a row begins with, and how many bytes they take
+-- Pinned by: reading_finds_exactly_the_rows, bad_rows
 pub record Lengths : Type 0 where
   pub shared : ℕ
   pub rest : ℕ
   pub value : ℕ
   pub used : ℕ
 
--- three varints, one behind the other
+-- three varints, one after the other
+-- Pinned by: reading_finds_exactly_the_rows, bad_rows
 unfoldable pub lengths_at : List ℕ → Option Lengths
 lengths_at bytes =
     option_and_then (λ shared. option_and_then (λ rest. option_and_then (λ value.
@@ -35,11 +38,15 @@ lengths_at bytes =
 
 -- the lengths agree with the `room` that is left for rows: the key before has the shared bytes, the row ends within
 -- the room, and its key isn't longer than a stored key may be
+-- RocksDB: CheckAndDecodeEntry; the limit is own
+-- Pinned by: reading_finds_exactly_the_rows, bad_rows, long_keys
 abbrev pub are_within : List ℕ → ℕ → Lengths → Bool
 are_within before room l =
     nat_le l.shared (length before) && (nat_le (l.used + l.rest + l.value) room && nat_le (l.shared + l.rest) 65544)
 
 -- the row of these lengths: the shared front of the key before and the bytes that follow, and then the value
+-- RocksDB: block.cc, ParseNextKey
+-- Pinned by: reading_finds_exactly_the_rows
 abbrev pub row_by : List ℕ → List ℕ → Lengths → Spelled
 row_by before bytes l =
     record {
@@ -51,6 +58,8 @@ row_by before bytes l =
     }
 
 -- the row at the front, and how many bytes it takes
+-- RocksDB: ParseNextKey
+-- Pinned by: reading_finds_exactly_the_rows, bad_rows, first_fault_is_first
 abbrev pub row_of_lengths : List ℕ → List ℕ → Lengths → Option (Spelled × ℕ)
 row_of_lengths before bytes l =
     if are_within before (length bytes) l then Some (row_by before bytes l, l.used + l.rest + l.value) else None
@@ -59,16 +68,22 @@ unfoldable pub row_at : List ℕ → List ℕ → Option (Spelled × ℕ)
 row_at before bytes = option_and_then (row_of_lengths before bytes) (lengths_at bytes)
 
 -- the keys of the form end with a tag
+-- RocksDB: db/dbformat.h
+-- Pinned by: reading_finds_exactly_the_rows, bad_rows, handles
 abbrev pub has_tag : RowForm → Bool
 has_tag Entries = true
 has_tag Names = false
 has_tag (Index user_key delta) = not user_key
 
 -- the key is an internal key: its last eight bytes are a tag with one of the four kinds
+-- RocksDB: db/dbformat.h, ParseInternalKey
+-- Pinned by: reading_finds_exactly_the_rows, bad_kinds
 abbrev pub is_internal_key : List ℕ → Bool
 is_internal_key key = is_some (parts_of key) && is_some (fixed_at 8 (drop (length key - 8) key))
 
 -- the value is a block handle and nothing else
+-- RocksDB: table/format.cc, BlockHandle::DecodeFrom
+-- Pinned by: reading_finds_exactly_the_rows, handles
 abbrev pub is_whole : ℕ → Option (Handle × ℕ) → Bool
 is_whole n None = false
 is_whole n (Some read) = read.1 == n
@@ -77,12 +92,16 @@ abbrev pub is_handle : List ℕ → Bool
 is_handle value = is_whole (length value) (handle_at value)
 
 -- what the form says of a row's value and of the kind in its key, in this order; `at` is where the row begins
+-- Own.
+-- Pinned by: first_fault_is_first, bad_kinds, handles
 abbrev pub form_fault : RowForm → ℕ → Row → Option BlockFault
 form_fault Entries at row = if is_internal_key row.key then None else Some (BadKind at)
 form_fault Names at row = None
 form_fault (Index user_key delta) at row = if is_handle row.value then None else Some (BadHandle at)
 
 -- the key is after the one before, if there is one
+-- Own.
+-- Pinned by: first_fault_is_first, names_out_of_order, entries_in_order
 abbrev pub is_after : RowForm → Option (List ℕ) → List ℕ → Bool
 is_after form None key = true
 is_after form (Some before) key = is_lt (key_cmp form before key)
@@ -90,33 +109,43 @@ is_after form (Some before) key = is_lt (key_cmp form before key)
 abbrev pub order_fault : RowForm → ℕ → Option (List ℕ) → Row → Option BlockFault
 order_fault form at before row = if is_after form before row.key then None else Some (Disorder at)
 
--- one fault, or else another
+-- one damage, or else another
+-- Own.
+-- Pinned by: first_fault_is_first
 abbrev pub or_fault : Option BlockFault → Option BlockFault → Option BlockFault
 or_fault None next = next
 or_fault (Some fault) next = Some fault
 
--- the first fault of a row whose lengths are good: its key is too short for a tag, what the form says, the order
+-- the first damage of a row whose lengths are good: its key is too short for a tag, what the form says, the order
+-- Own.
+-- Pinned by: first_fault_is_first
 abbrev pub row_fault : RowForm → ℕ → Option (List ℕ) → Row → Option BlockFault
 row_fault form at before row =
     if has_tag form && nat_lt (length row.key) 8 then Some (BadRow at)
     else or_fault (form_fault form at row) (order_fault form at before row)
 
 -- the front that a key may share
+-- RocksDB: block.cc, ParseNextKey
+-- Pinned by: reading_finds_exactly_the_rows
 abbrev pub key_before : Option (List ℕ) → List ℕ
 key_before None = []
 key_before (Some key) = key
 
--- a value, or the fault
+-- a value, or the damage
+-- Own.
 abbrev pub unless : {A : Type 0} → A → Option BlockFault → Result A BlockFault
 unless x None = Ok x
 unless x (Some fault) = Err fault
 
--- the next step, if the one before found no fault
+-- the next step, if the one before found no damage
+-- Own.
 abbrev pub then_read : {A B : Type 0} → Result A BlockFault → (A → Result B BlockFault) → Result B BlockFault
 then_read (Ok x) next = next x
 then_read (Err fault) next = Err fault
 
--- the row at the front, if it has no fault
+-- the row at the front, if it has no damage
+-- Own.
+-- Pinned by: first_fault_is_first, bad_rows
 abbrev pub sound_row : RowForm → ℕ → Option (List ℕ) → Option (Spelled × ℕ) → Result (Spelled × ℕ) BlockFault
 sound_row form at before None = Err (BadRow at)
 sound_row form at before (Some read) = unless read (row_fault form at before read.0.row)
@@ -125,11 +154,13 @@ unfoldable pub row_read : RowForm → ℕ → Option (List ℕ) → List ℕ →
 row_read form at before bytes = sound_row form at before (row_at (key_before before) bytes)
 
 -- a row before others
+-- Own.
 abbrev pub onto_rows : Spelled → Result (List Spelled) BlockFault → Result (List Spelled) BlockFault
 onto_rows s rest = then_read rest (λ rows. Ok (s ∷ rows))
 
 -- the rows that stand in the bytes, of which there are at most n: `at` is where the first begins, `before` the key
 -- before it
+-- Own.
 abbrev pub rows_from : ℕ → RowForm → ℕ → Option (List ℕ) → List ℕ → Result (List Spelled) BlockFault
 rows_from zero form at before bytes = Ok []
 rows_from (suc n) form at before [] = Ok []
@@ -138,37 +169,48 @@ rows_from (suc n) form at before (b ∷ bytes) =
     (λ read. onto_rows read.0 (rows_from n form (at + read.1) (Some read.0.row.key) (drop read.1 (b ∷ bytes))))
 
 -- the rows that stand in the bytes; each takes a byte at least
+-- Own.
 unfoldable pub rows_read : RowForm → List ℕ → Result (List Spelled) BlockFault
 rows_read form bytes = rows_from (length bytes) form 0 None bytes
 
 -- the number of restarts agrees with the block's length: there is one at least, and they stand before the footer
+-- Pinned by: first_fault_is_first, bad_footers
 abbrev pub fits_in : ℕ → ℕ → Bool
 fits_in size count = nat_lt 0 count && nat_le (4 * count + 4) size
 
 -- the number of four bytes at the front, if it passes the test
+-- Pinned by: first_fault_is_first, bad_footers
 abbrev pub number_where : (ℕ → Bool) → List ℕ → Option ℕ
 number_where test bytes = option_and_then (λ n. if test n then Some n else None) (fixed_at 4 bytes)
 
 -- how many restarts the footer says, which is the last four bytes, if it is good; bit 31 would say that a hash part is
 -- there, and for now makes the number too large
+-- Pinned by: first_fault_is_first, bad_footers
 abbrev pub restart_count : List ℕ → Option ℕ
 restart_count bytes =
     if nat_lt (length bytes) 8 then None else number_where (fits_in (length bytes)) (drop (length bytes - 4) bytes)
 
 -- where the rows end, before so many restarts and the footer
+-- Pinned by: reading_finds_exactly_the_rows
 abbrev pub rows_end : List ℕ → ℕ → ℕ
 rows_end bytes count = length bytes - 4 - 4 * count
 
 -- a restart other than the first is after the one before, and is one of the `fresh` places
+-- Own.
+-- Pinned by: first_fault_is_first, restarts
 abbrev pub may_follow : List ℕ → ℕ → ℕ → Bool
 may_follow fresh before restart = nat_lt before restart && list_any (nat_eq restart) fresh
 
--- a fault where there is no number, else what comes of the number
+-- a damage where there is no number, else what comes of the number
+-- Own.
+-- Pinned by: first_fault_is_first, restarts
 abbrev pub by_number : BlockFault → Option ℕ → (ℕ → Option BlockFault) → Option BlockFault
 by_number fault None next = Some fault
 by_number fault (Some n) next = next n
 
 -- of the next n restarts the first that may not follow the one before; `i` is the number of the first of them
+-- Own.
+-- Pinned by: first_fault_is_first, restarts
 abbrev pub restart_fault : List ℕ → ℕ → ℕ → ℕ → List ℕ → Option BlockFault
 restart_fault fresh zero i before bytes = None
 restart_fault fresh (suc n) i before bytes =
@@ -177,32 +219,41 @@ restart_fault fresh (suc n) i before bytes =
 
 -- the first restart that breaks a rule: the first of all is 0, and each other one is after the one before and is the
 -- start of a row that shares nothing
+-- Own.
+-- Pinned by: first_fault_is_first, restarts_of_few
 abbrev pub restarts_fault : List ℕ → ℕ → List ℕ → Option BlockFault
 restarts_fault fresh zero bytes = None
 restarts_fault fresh (suc n) bytes =
     by_number (BadRestart 0) (number_where (λ first. first == 0) bytes) (λ first. restart_fault fresh n 1 first (drop 4 bytes))
 
--- the rows, if the restarts have no fault
+-- the rows, if the restarts have no damage
+-- Own.
 abbrev pub with_restarts : ℕ → List ℕ → List Spelled → Result (List Spelled) BlockFault
 with_restarts count bytes spelled = unless spelled (restarts_fault (fresh_starts 0 spelled) count bytes)
 
--- the rows before so many restarts, or the first fault
+-- the rows before so many restarts, or the first damage
+-- Own.
 abbrev pub parts_read : RowForm → List ℕ → Option ℕ → Result (List Spelled) BlockFault
 parts_read form bytes None = Err BadFooter
 parts_read form bytes (Some count) =
     then_read (rows_read form (take (rows_end bytes count) bytes)) (with_restarts count (drop (rows_end bytes count) bytes))
 
--- the rows of a block, or its first fault
+-- the rows of a block, or its first damage: of the footer, the rows, the restarts
+-- Own.
 unfoldable pub block_read : RowForm → List ℕ → Result (List Spelled) BlockFault
 block_read form bytes = parts_read form bytes (restart_count bytes)
 
 -- the bytes read as these rows
+-- Own.
+-- Pinned by: reading_finds_exactly_the_rows
 pub record Reads (form : RowForm) (bytes : List ℕ) (rows : List Row) : Type 0 where
   pub spelled : List Spelled
   pub reads : block_read form bytes ≡ Ok spelled
   pub are_rows : map (λ (s : Spelled). s.row) spelled ≡ rows
 
--- an answer is what was read: the number of rows, or the first fault; want of memory says nothing
+-- an answer is what was read: the number of rows, or the first damage; out of memory says nothing
+-- Own.
+-- Pinned by: open.told
 abbrev pub Gives : Result ℕ (Refused BlockFault) → Result (List Spelled) BlockFault → Type 0
 Gives (Ok n) read = (spelled : List Spelled) × (read ≡ Ok spelled) × (length spelled ≡ n)
 Gives (Err Memory) read = Unit {0}

@@ -1,5 +1,7 @@
 -- How `check_block` meets the restarts on its one way through the rows. Nothing is promised here: what is promised is
 -- in Reading.antt, and the proofs join the two.
+-- For proofs alone.
+-- Pinned by: check_block.exact
 use Rattle.std.specs.Prelude.{ℕ, ◌+◌, ◌-◌, ◌==◌, Bool, false, ◌&&◌, nat_lt, if◌then◌else◌, List, [], ◌∷◌, length, drop, Option, None, Some, Result, Ok}
 use Rattle.sst_num.specs.Reading.{fixed_at}
 use Rattle.sst_block.specs.declared.row_form.RowForm.{RowForm}

@@ -1,4 +1,6 @@
 -- The names that the code's own values have in the reading of a block (specs/Reading.antt). Nothing is promised here.
+-- For proofs alone.
+-- Pinned by: check_block.exact
 use Rattle.std.specs.Prelude.{◌≡◌, ℕ, ◌+◌, length, Bool, true, List, Option, None, Some, option_map, ◌<◌, ◌≤◌, if◌then◌else◌}
 use Rattle.sst_block.specs.declared.row.Lengths.{Lengths}
 use Rattle.sst_block.specs.Block.{Spelled}

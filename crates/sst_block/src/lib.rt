@@ -42,32 +42,16 @@
 //!
 //! # Promises
 //!
-//! [`BlockBuilder`] makes exactly one block of given rows: each `interval`-th row is a restart, and every other
-//! row shares all that its key has in common with the key before it, as RocksDB's own builder has it. The
-//! bytes are those of `block_of` (specs/Chosen.antt), and they stand for the rows in the sense of `Block`
-//! (specs/Block.antt), which says what the bytes of any block say, whoever made it. The builder knows the
-//! length of the block that it would make now ([`BlockBuilder::size_now`]).
-//!
-//! Where memory runs out a call answers so, and each later call of that builder that can fail answers the same.
-//! No bytes of rows are copied when a block is finished.
-//!
-//! [`check_block`] says of any bytes, at most 2^29 of them, how many rows they have as a block of some form, or their
-//! first fault, exactly as `block_read` (specs/Reading.antt) has it. Nothing of a block is taken on trust: each length
-//! has its shortest spelling and fits, each key is after the one before, entries have known kinds, index rows have
-//! handles, and each restart leads to a row that shares nothing. How much of a common front a row shares, and which of
-//! the rows that share nothing are restarts, is free.
-//!
-//! The first fault is the one that comes first in this order:
-//!
-//! 1. The footer: too few bytes, no restart, or more than there is room for.
-//! 2. The rows, one by one. Of a row: its lengths, and that its key has a tag; then the kind in a key of a data block,
-//!    or the handle in an index block; then that its key is after the one before.
-//! 3. The restarts, one by one: the first is 0, and each other one is after the one before, and is the start of a row
-//!    that shares nothing.
-//!
-//! [`BlockIter`] goes over the rows of a block that was checked, from the first to the last. It shows the key and the
-//! value of each; a key stays until the next move, and a value as long as the block. It takes no memory, and no move
-//! fails.
+//! - [`BlockBuilder`] makes the one block of given rows (`block_of`, specs/Chosen.antt), as RocksDB's own builder has it, and
+//!   that block stands for them ([`chosen_block_stands_for_its_rows`], [`each_group_begins_whole`]). It knows the length of the
+//!   block that it would make now ([`BlockBuilder::size_now`]). Once memory ran out, each later call that can fail answers so.
+//! - [`check_block`] says of any bytes how many rows they have as a block of some form, or their first damage (`block_read`,
+//!   specs/Reading.antt, which has the order). Nothing of a block is taken on trust. How much of a common front a row shares,
+//!   and which of the rows that share nothing are restarts, is free.
+//! - What is read is what the bytes stand for (`Block`, specs/Block.antt), whoever made them
+//!   ([`reading_finds_exactly_the_rows`], [`a_block_has_one_list_of_rows`], [`first_fault_is_first`]).
+//! - [`BlockIter`] goes over the rows of a block that was checked, from the first to the last. A key stays until the next
+//!   move, and a value as long as the block. It takes no memory, and no move fails.
 //!
 //! A block with a hash part, and index blocks whose separators are user keys or whose handles are differences,
 //! are neither made nor read yet.

@@ -1,4 +1,5 @@
 -- What a `calls` comes to: the text that it prints, the status that it ends with, and what it leaves.
+-- Pinned by: run.whole
 use Rattle.std.specs.Prelude.{◌≡◌, ◌⊎◌, ℕ, List, [], Option, Some, None, Result, Ok, Err, IsTrue, All}
 use Rattle.std.specs.Io.KnownBytes.{append_known}
 use Rattle.sst_key.specs.declared.entries.Entry.{Entry}
@@ -21,17 +22,20 @@ use Rattle.sst_cli.specs.declared.status.Status.{Status}
 use Rattle.sst_cli.specs.declared.status.Status.TheVariants.{Done, File}
 
 -- the text that a file calls for which reads so: the answers by the way of its blocks, or the line of its fault
+-- Pinned by: run.answered, run.printed
 abbrev pub IsFileText : Result (List RowBlock) BbtFault → List Call → List ℕ → Type 0
 IsFileText (Ok read) calls text =
     (blocks : List IndexedBlock) × All HasSeq (joined blocks) × (read ≡ row_blocks_of blocks) × (text ≡ way_text blocks calls)
 IsFileText (Err fault) calls text = text ≡ fault_text fault
 
 -- the status that goes with it
+-- Pinned by: run.answered, run.damaged
 abbrev pub file_status : Result (List RowBlock) BbtFault → Status
 file_status (Ok blocks) = Done
 file_status (Err fault) = File
 
 -- the status and the text are those that a file calls for which reads so
+-- Pinned by: run.answered, run.damaged
 pub record IsAnswered (result : Status) (read : Result (List RowBlock) BbtFault) (calls : List Call) (before now : Option (List ℕ)) : Type 0 where
   pub ends : result ≡ file_status read
   pub text : List ℕ
@@ -40,6 +44,7 @@ pub record IsAnswered (result : Status) (read : Result (List RowBlock) BbtFault)
 
 -- a `calls` whose input reads as these calls is carried out on a file with these entries: their answers are printed,
 -- the input is read to its end, and no file changed
+-- Pinned by: run.headline_calls
 pub record Answered (result : Status) (entries : List Entry) (calls : List Call) (old new : Option Files) (left before now : Option (List ℕ)) : Type 0 where
   pub done : result ≡ Done
   pub kept : new ≡ old
@@ -47,6 +52,7 @@ pub record Answered (result : Status) (entries : List Entry) (calls : List Call)
   pub printed : now ≡ append_known before (answers_text entries calls)
 
 -- the same on a file with these blocks: the answers by their way are printed
+-- Pinned by: run.answered, run.done_answered
 pub record AnsweredByWay (result : Status) (blocks : List IndexedBlock) (calls : List Call) (old new : Option Files) (left before now : Option (List ℕ)) : Type 0 where
   pub done : result ≡ Done
   pub kept : new ≡ old
@@ -54,6 +60,7 @@ pub record AnsweredByWay (result : Status) (blocks : List IndexedBlock) (calls :
   pub printed : now ≡ append_known before (way_text blocks calls)
 
 -- the first thing that is wrong with the file was printed, the file shows it, and the input is read to its end
+-- Pinned by: run.damaged
 pub record IsDamaged (result : Status) (file : List ℕ) (left before now : Option (List ℕ)) : Type 0 where
   pub ends : result ≡ File
   pub read : left ≡ Some []
@@ -88,12 +95,14 @@ IsTextFor words held input None text = IsOtherText held input (calls_name words)
 IsTextFor words held input (Some name) text = IsWriteText input text
 
 -- the words are a command, and this input of it is refused
+-- Pinned by: run.input_only
 abbrev pub IsRefusedInput : List (List ℕ) → List ℕ → Type 0
 IsRefusedInput words text =
     ((name : List ℕ) × (refusal : Refusal) × (out_name words ≡ Some name) × (read_input text ≡ Err refusal))
     ⊎ ((name : List ℕ) × (refusal : Refusal) × (calls_name words ≡ Some name) × (read_calls text ≡ Err refusal))
 
 -- the folder tells that it lacks the file, and the input, where it is told, reads as calls
+-- Pinned by: run.device
 pub record IsLacking (held : Option Files) (name : List ℕ) (input : Option (List ℕ)) : Type 0 where
   pub lacks : IsTrue (misses held name 0)
   pub reads : (text : List ℕ) → input ≡ Some text → (calls : List Call) × (read_calls text ≡ Ok calls)

@@ -1,4 +1,5 @@
 -- The next line of an input, and why there is none that can be read.
+-- Pinned by: add_lines.refused, read_calls.refused
 use Rattle.std.specs.Prelude.{◌≡◌, ◌⊎◌, ℕ, ◌<◌, ◌≤◌, List, [], length, take, drop, Option, Some, None}
 use Rattle.sst_cli.specs.declared.input.refusal.Reason.TheVariants.{LineLong, Line}
 use Rattle.sst_cli.specs.declared.input.refusal.Refusal.{Refusal}
@@ -7,6 +8,7 @@ use Rattle.sst_text.specs.Lines.{BeginsLong, IsRead}
 use Rattle.sst_cli.specs.Reading.{refused_at}
 
 -- how many bytes the line at the front of the unread bytes has before its line end; none where the input has ended
+-- Pinned by: add_lines.ok, read_calls.ok
 abbrev pub IsNext : Option ℕ → List ℕ → Option (List ℕ) → Type 0
 IsNext None unread left = (unread ≡ []) × IsRead left
 IsNext (Some n) unread left = (n ≤ 40000000) × (cut 10 unread ≡ Some (take n unread, drop 1 (drop n unread)))

@@ -7,6 +7,7 @@ use Rattle.sst_cli.specs.Run.{HoldsWritten}
 use Rattle.sst_cli.specs.Words.{WriteLine}
 
 -- the file of the input's entries stands there and the input is read to its end
+-- Pinned by: run.written
 pub record HasProduced (count : ℕ) (line : WriteLine) (old new : Option Files) (input left : Option (List ℕ)) : Type 0 where
   pub entries : List Entry
   pub counted : count ≡ length entries

@@ -8,6 +8,7 @@ use Rattle.sst_bbt_write.specs.After.{After}
 use Rattle.sst_cli.specs.Reading.{read_line, read_input, refused_at}
 
 -- the line is an entry that the writer took
+-- Pinned by: add_lines.ok
 pub record HasAdded (entries : List Entry) (bytes line : List ℕ) (writer : BbtWriter) (old new : List ℕ) : Type 0 where
   pub entry : Entry
   pub reads : read_line entries line ≡ Ok entry
@@ -16,12 +17,14 @@ pub record HasAdded (entries : List Entry) (bytes line : List ℕ) (writer : Bbt
   pub after : After writer (entries ++ entry ∷ []) (bytes ++ piece)
 
 -- what the line of this number says is a reason to refuse it, and this is its refusal
+-- Pinned by: add_lines.refused, read_calls.refused
 pub record IsRefused {A : Type 0} (answer : Result A Reason) (number : ℕ) (refusal : Refusal) : Type 0 where
   pub why : Reason
   pub reads : answer ≡ Err why
   pub said : refusal ≡ refused_at number why
 
 -- the writer took the entries of the whole input, which is read to its end, and appended these bytes
+-- Pinned by: produce.ok
 pub record HoldsInput (writer : BbtWriter) (bytes : List ℕ) (input left : Option (List ℕ)) : Type 0 where
   pub entries : List Entry
   pub after : After writer entries bytes

@@ -4,5 +4,7 @@ use Rattle.sst_num.specs.declared.block_handle.Handle.{Handle}
 
 -- at most so many bytes are drawn for the block at a handle: the block, which isn't larger than a block may be, and its
 -- trailer
+-- RocksDB: table/block_fetcher.cc
+-- Pinned by: draw_framed.drew_some (too few), end_drawn_twice (too many)
 abbrev pub block_drawn : Handle → ℕ
 block_drawn h = min h.size (2 ^ 29) + 5

@@ -2,6 +2,7 @@
 -- RocksDB: BlockBasedTable::kBlockTrailerSize in table/block_based/block_based_table_reader.h,
 -- ComputeBuiltinChecksumWithLastByte in table/format.cc, and
 -- BlockBasedTableBuilder::WriteMaybeCompressedBlock in table/block_based/block_based_table_builder.cc.
+-- Pinned by: a_stored_block, an_empty_block
 use Rattle.std.specs.Prelude.{◌≡◌, ℕ, ◌+◌, ◌^◌, ◌≤◌, List, [], ◌∷◌, ◌++◌, take, drop}
 use Rattle.sst_num.specs.Spelling.{fixed}
 use Rattle.sst_num.specs.declared.block_handle.Handle.{Handle}
@@ -16,14 +17,19 @@ unfoldable pub trailer_of : List ℕ → List ℕ
 trailer_of block = 0 ∷ stored_checksum block
 
 -- a stored block
+-- Pinned by: frame_is_framed, an_empty_block
 abbrev pub frame_of : List ℕ → List ℕ
 frame_of block = block ++ trailer_of block
 
 -- `n` bytes of the file from `at` on
+-- Own.
+-- Pinned by: a_range
 abbrev pub bytes_at : List ℕ → ℕ → ℕ → List ℕ
 bytes_at file at n = take n (drop at file)
 
 -- The block that a handle stands for in a file. `end` is the file's length without its footer.
+-- RocksDB: table/block_based/block_based_table_reader.h, kBlockTrailerSize; the limit is own
+-- Pinned by: a_stored_block_is_read, handles_that_are_faults, blocks_that_are_faults
 pub record Framed (file : List ℕ) (end : ℕ) (handle : Handle) (block : List ℕ) : Type 0 where
   -- the block and its trailer end before the footer
   pub within : handle.offset + handle.size + 5 ≤ end
@@ -38,7 +44,9 @@ pub record Framed (file : List ℕ) (end : ℕ) (handle : Handle) (block : List 
 
 -- The block without a trailer that a handle stands for in a file, as plain and cuckoo tables keep their meta blocks.
 -- `end` is the file's length without its footer.
--- RocksDB: BlockTrailerSizeForMagicNumber in table/format.cc, and WriteBlock in table/plain/plain_table_builder.cc.
+-- RocksDB: BlockTrailerSizeForMagicNumber in table/format.cc, and WriteBlock in table/plain/plain_table_builder.cc; the
+-- limit is own.
+-- Pinned by: a_block_without_a_trailer_is_bare
 pub record Bare (file : List ℕ) (end : ℕ) (handle : Handle) (block : List ℕ) : Type 0 where
   -- the block ends before the footer
   pub within : handle.offset + handle.size ≤ end

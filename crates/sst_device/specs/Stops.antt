@@ -1,5 +1,6 @@
 -- What the answers of calls that read a file say of what the file reads as. Where a device failed or memory ran out an
 -- answer says nothing.
+-- Pinned by: a_failing_folder, stored_blocks, an_absent_file
 use Rattle.std.specs.Prelude.{◌≡◌, Result, Ok, Err}
 use Rattle.sst_num.specs.declared.stops.Stop.{Stop}
 use Rattle.sst_num.specs.declared.stops.Stop.TheVariants.{Damage, Device, Memory}
@@ -18,6 +19,7 @@ stop_as f Device = Device
 stop_as f Memory = Memory
 
 -- an answer is what was read: the value, or the fault
+-- Pinned by: open.told
 abbrev pub Answers : {A X : Type 0} → Result A (Stop X) → Result A X → Type 0
 Answers (Ok x) read = read ≡ Ok x
 Answers (Err (Damage fault)) read = read ≡ Err fault

@@ -46,20 +46,16 @@
 //!
 //! # Promises
 //!
-//! - [`pack`] appends the internal key of what it is given. Where memory runs out it answers so, and the
-//!   list keeps its old bytes, with others behind them.
-//! - [`unpack`] reads an internal key, and answers None exactly where the key is shorter than eight bytes or its
-//!   kind byte is no kind's number. It takes no memory. What was packed is unpacked ([`packed_is_unpacked`]).
+//! - [`pack`] appends the internal key of what it is given; where memory runs out the list keeps its old bytes, with others
+//!   after them.
+//! - [`unpack`] reads an internal key, or answers None where it is none. What was packed is unpacked
+//!   ([`packed_is_unpacked`]).
 //! - A [`KeyRoom`] holds one internal key after another. It takes memory when it is made, and none later.
-//! - [`cmp_internal`] compares internal keys as the order says, and takes no memory.
-//! - The order of internal keys is the order of their entries ([`internal_order_is_entry_order`]).
-//! - [`answer`] answers a call as the list machine does. It counts through the whole list, where a reader is to
-//!   search, and takes no memory.
-//! - In an ordered list Seek lands at the first entry that isn't before its target
-//!   ([`seek_lands_on_the_first_not_before`]), SeekForPrev at the last that is up to it
-//!   ([`seek_for_prev_lands_on_the_last_up_to`]), and Get shows the newest entry that the snapshot sees
-//!   ([`get_shows_the_newest`]). What a snapshot sees is what the Gets at it show, in order
-//!   ([`visible_is_what_gets_show`]).
+//! - [`cmp_internal`] compares internal keys as their entries are ordered ([`internal_order_is_entry_order`]).
+//! - [`answer`] answers a call as the list machine does. It counts through the whole list, where a reader is to search.
+//! - Where Seek and SeekForPrev land in an ordered list, and what Get shows, is said without a count
+//!   ([`targets_compare_as_said`], [`seek_lands_on_the_first_not_before`], [`seek_for_prev_lands_on_the_last_up_to`],
+//!   [`get_shows_the_newest`]); what a snapshot sees is what the Gets at it show ([`visible_is_what_gets_show`]).
 //! - First and then Next go through the whole list ([`first_and_next_go_through`]), and Last and then Prev back
 //!   ([`last_and_prev_go_back`]).
 //!

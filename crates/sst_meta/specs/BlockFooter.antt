@@ -1,5 +1,6 @@
 -- The footer of a block-based file that is read: 53 bytes, masked CRC32C, version 2, 3 or 4.
 -- RocksDB: table/format.h (Footer), table/format.cc (Footer::DecodeFrom).
+-- Pinned by: a_footer_is_read
 use Rattle.std.specs.Prelude.{◌≡◌, ◌⊎◌, ℕ, ◌-◌, ◌^◌, ◌<◌, ◌≤◌, false, List, ◌∷◌, ◌++◌, length, slice_index}
 use Rattle.sst_num.specs.Spelling.{fixed}
 use Rattle.sst_num.specs.declared.block_handle.Handle.{Handle}
@@ -8,15 +9,18 @@ use Rattle.sst_meta.specs.Footer.{block_based_magic, legacy_block_based_magic, p
 use Rattle.sst_meta.specs.declared.footer.Footer.{Footer}
 
 -- the footer of a block-based file with masked CRC32C, which has 53 bytes
+-- Pinned by: a_footer_is_read, no_names
 abbrev pub block_footer : ℕ → Handle → Handle → Footer
 block_footer version metaindex index =
     record { format = Format.Block; legacy = false; version = version; checksum = 1; meta = metaindex; index = index }
 
 -- where the footer of a block-based file begins
+-- Pinned by: a_footer_is_read, stored_blocks
 abbrev pub footer_start : List ℕ → ℕ
 footer_start file = length file - 53
 
 -- the last twelve bytes of its footer: the version and the magic number
+-- RocksDB: table/format.cc, FooterBuilder::Build
 abbrev pub footer_back : ℕ → List ℕ
 footer_back version = fixed 4 version ++ fixed 8 block_based_magic
 
@@ -25,12 +29,14 @@ abbrev pub EndsWith : ℕ → ℕ → List ℕ → Type 0
 EndsWith magic footer_length file = (footer_length ≤ length file) × ((front : List ℕ) × (file ≡ front ++ fixed 8 magic))
 
 -- the file ends with one of the magic numbers
+-- Pinned by: a_footer_is_read, a_meta_fault_is_shown
 abbrev pub IsTable : List ℕ → Type 0
 IsTable file =
     EndsWith block_based_magic 53 file ⊎ EndsWith legacy_block_based_magic 48 file ⊎ EndsWith plain_magic 53 file
     ⊎ EndsWith legacy_plain_magic 48 file ⊎ EndsWith cuckoo_magic 53 file
 
 -- the file is a plain or a cuckoo table
+-- Pinned by: a_footer_is_read, a_meta_fault_is_shown
 abbrev pub IsOtherTable : List ℕ → Type 0
 IsOtherTable file = EndsWith plain_magic 53 file ⊎ EndsWith legacy_plain_magic 48 file ⊎ EndsWith cuckoo_magic 53 file
 
@@ -44,6 +50,8 @@ pub record EndsIn (file : List ℕ) (end kind version : ℕ) (between : List ℕ
   pub small : version < 2 ^ 32
 
 -- the version is one that is read
+-- Own, for now.
+-- Pinned by: a_footer_is_read, footers_that_are_faults
 abbrev pub IsBuilt : ℕ → Type 0
 IsBuilt version = (2 ≤ version) × (version ≤ 4)
 
@@ -56,5 +64,7 @@ pub record FooterLeads (file : List ℕ) (end : ℕ) (metaindex index : Handle) 
   pub handles : AreHandles metaindex index between
 
 -- the numbers are bytes, as those of a real file are
+-- Own.
+-- Pinned by: a_footer_is_read, a_fault_is_shown
 abbrev pub AreBytes : List ℕ → Type 0
 AreBytes numbers = (i : ℕ) → slice_index numbers i < 256

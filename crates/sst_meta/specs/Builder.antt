@@ -8,15 +8,21 @@ use Rattle.sst_block.specs.Builder as rows
 use Rattle.sst_meta.specs.declared.builder.PropsBuilder.{PropsBuilder}
 
 -- the builder holds these pairs of a name and a value, which were set in this order
+-- Own.
+-- Pinned by: finish.exact, two_properties
 abbrev pub Holds : PropsBuilder → List Row → Type 0
 Holds b pairs = rows.Holds b.rows Names 65536 pairs
 
 -- memory ran out in an earlier call
+-- Own.
+-- Pinned by: set.err, set.later
 abbrev pub HasFailed : PropsBuilder → Type 0
 HasFailed b = rows.HasFailed b.rows
 
 -- the pair may come after those that the builder holds: its name is bytewise after the last and isn't too long, there
 -- are not more than 65,536 names, and the block stays short
+-- Own.
+-- Pinned by: set.ok, two_properties
 pub record Takes (b : PropsBuilder) (pair : Row) : Type 0 where
   pub pairs : List Row
   pub holds : Holds b pairs
@@ -26,5 +32,7 @@ pub record Takes (b : PropsBuilder) (pair : Row) : Type 0 where
   pub short : length (block_of 65536 (pairs ++ pair ∷ [])) < 2 ^ 29
 
 -- a builder that has failed refuses each pair, and any other takes those that may come next
+-- Own.
+-- Pinned by: set.ok
 abbrev pub CanSet : PropsBuilder → Row → Type 0
 CanSet b pair = HasFailed b ⊎ Takes b pair

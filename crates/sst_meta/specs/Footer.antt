@@ -2,6 +2,7 @@
 -- RocksDB: table/format.h (Footer), table/format.cc (FooterBuilder::Build), and the magic numbers in
 -- table/block_based/block_based_table_builder.cc, table/plain/plain_table_builder.cc and
 -- table/cuckoo/cuckoo_table_builder.cc.
+-- Pinned by: a_footer_reads_back, a_block_based_footer
 use Rattle.std.specs.Prelude.{◌≡◌, ℕ, ◌-◌, ◌^◌, ◌<◌, ◌≤◌, Bool, true, false, if◌then◌else◌, List, ◌∷◌, ◌++◌, length, replicate}
 use Rattle.sst_num.specs.Spelling.{fixed, handle_spelling}
 use Rattle.sst_num.specs.declared.block_handle.Handle.{Handle}
@@ -10,6 +11,7 @@ use Rattle.sst_key.specs.declared.calls.Format.TheVariants.{Block, Plain, Cuckoo
 use Rattle.sst_meta.specs.declared.footer.Footer.{Footer}
 
 -- the number that ends each block-based file, and the one of version 0
+-- Pinned by: a_block_based_footer, other_tables
 abbrev pub block_based_magic : ℕ
 block_based_magic = 0x88e241b785f4cff7
 
@@ -17,6 +19,7 @@ abbrev pub legacy_block_based_magic : ℕ
 legacy_block_based_magic = 0xdb4775248b80fb57
 
 -- the number that ends each plain table, and the one of version 0
+-- Pinned by: a_legacy_plain_footer, other_tables
 abbrev pub plain_magic : ℕ
 plain_magic = 0x8242229663bf9564
 
@@ -24,10 +27,12 @@ abbrev pub legacy_plain_magic : ℕ
 legacy_plain_magic = 0x4f3418eb7a8f13b8
 
 -- the number that ends each cuckoo table
+-- Pinned by: a_legacy_plain_footer, other_tables
 abbrev pub cuckoo_magic : ℕ
 cuckoo_magic = 0x926789d0c5f17873
 
 -- the number that ends a file of a format; a legacy footer is the one of version 0, which a cuckoo table never has
+-- Pinned by: a_footer_reads_back, a_footer_is_read
 abbrev pub magic_of : Format → Bool → ℕ
 magic_of Block true = legacy_block_based_magic
 magic_of Block false = block_based_magic
@@ -36,15 +41,18 @@ magic_of Plain false = plain_magic
 magic_of Cuckoo legacy = cuckoo_magic
 
 -- how many bytes a footer takes
+-- Pinned by: a_footer_reads_back, a_footer_is_read
 abbrev pub footer_length : Bool → ℕ
 footer_length true = 48
 footer_length false = 53
 
 -- the metaindex handle and the index handle
+-- Pinned by: a_block_based_footer
 abbrev pub two_handles : Handle → Handle → List ℕ
 two_handles metaindex index = handle_spelling metaindex ++ handle_spelling index
 
 -- the zeros that fill 40 bytes up behind them
+-- Pinned by: a_block_based_footer
 abbrev pub handle_zeros : Handle → Handle → List ℕ
 handle_zeros metaindex index = replicate (40 - length (two_handles metaindex index)) 0
 
@@ -64,6 +72,7 @@ footer_spelling f = if f.legacy then legacy_spelling f else later_spelling f
 
 -- what a footer that is written says, by format, whether it is legacy, version and checksum type. A legacy footer has
 -- version 0, and the checksum type that stands for none is 0; a block-based file has masked CRC32C, which is 1.
+-- Own.
 abbrev pub IsWritable : Format → Bool → ℕ → ℕ → Type 0
 IsWritable Block true version checksum = (version ≡ 0) × (checksum ≡ 1)
 IsWritable Block false version checksum = (2 ≤ version) × (version ≤ 4) × (checksum ≡ 1)
@@ -73,11 +82,14 @@ IsWritable Cuckoo true version checksum = ⊥
 IsWritable Cuckoo false version checksum = checksum ≡ 0
 
 -- the numbers of a footer are those of its fields' types
+-- Pinned by: a_footer_reads_back
 abbrev pub IsInRange : Footer → Type 0
 IsInRange f =
     (f.version < 2 ^ 32) × (f.meta.offset < 2 ^ 64) × (f.meta.size < 2 ^ 64) × (f.index.offset < 2 ^ 64) × (f.index.size < 2 ^ 64)
 
 -- some bytes begin with the spellings of two handles
+-- RocksDB: table/format.cc, BlockHandle::EncodeTo
+-- Pinned by: a_footer_is_read
 abbrev pub AreHandles : Handle → Handle → List ℕ → Type 0
 AreHandles metaindex index between =
     (metaindex.offset < 2 ^ 64) × (metaindex.size < 2 ^ 64) × (index.offset < 2 ^ 64) × (index.size < 2 ^ 64)

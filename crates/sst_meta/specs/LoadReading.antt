@@ -25,6 +25,8 @@ use Rattle.sst_meta.specs.declared.meta_fault.MetaFault.{MetaFault}
 use Rattle.sst_meta.specs.declared.meta_fault.MetaFault.TheVariants as meta
 
 -- the footer by the format of the file; a plain or a cuckoo table isn't read yet
+-- RocksDB: table/format.cc, DecodeFrom
+-- Pinned by: a_footer_is_read, other_tables
 abbrev pub by_format : List ℕ → Option Format → Result Footer MetaFault
 by_format tail None = footer_read tail
 by_format tail (Some Format.Block) = footer_read tail
@@ -32,15 +34,21 @@ by_format tail (Some Format.Plain) = Err meta.NotYet
 by_format tail (Some Format.Cuckoo) = Err meta.NotYet
 
 -- what the last 53 bytes of a file say, or the whole of a shorter file
+-- RocksDB: table/format.cc, DecodeFrom
+-- Pinned by: a_footer_is_read, other_tables
 unfoldable pub end_read : List ℕ → Result Footer MetaFault
 end_read tail = by_format tail (format_at tail)
 
 -- what was read, if it took all of so many bytes
+-- Own.
+-- Pinned by: names_that_are_faults, flags_of_the_index
 abbrev pub exactly : {A : Type 0} → ℕ → Option (A × ℕ) → Option A
 exactly n None = None
 exactly n (Some read) = if read.1 == n then Some read.0 else None
 
 -- the handle, or the varint, that a value is and nothing else
+-- RocksDB: table/format.cc, util/coding.h
+-- Pinned by: names_that_are_faults, flags_of_the_index, types_of_the_index
 unfoldable pub handle_in : List ℕ → Option Handle
 handle_in value = exactly (length value) (handle_at value)
 
@@ -48,25 +56,34 @@ unfoldable pub varint_in : List ℕ → Option ℕ
 varint_in value = exactly (length value) (varint_at value)
 
 -- the number of n bytes that a value is and nothing else
+-- RocksDB: table/format.cc, util/coding.h
+-- Pinned by: names_that_are_faults, flags_of_the_index, types_of_the_index
 abbrev pub fixed_in : ℕ → List ℕ → Option ℕ
 fixed_in n value = if length value == n then fixed_at n value else None
 
 -- the number is there, and is this one
+-- Own.
+-- Pinned by: types_of_the_index, files_of_other_databases
 abbrev pub is_number : ℕ → Option ℕ → Bool
 is_number n None = false
 is_number n (Some m) = m == n
 
 -- the number is there, and is below this one
+-- Own.
+-- Pinned by: types_of_the_index, files_of_other_databases
 abbrev pub is_below : ℕ → Option ℕ → Bool
 is_below n None = false
 is_below n (Some m) = nat_lt m n
 
 -- the user keys are bytewise in order, or nothing is said of their order
+-- Pinned by: other_orders, orders_and_types
 abbrev pub comparator_fault : Option (List ℕ) → Option MetaFault
 comparator_fault None = None
 comparator_fault (Some value) = if bytes_eq value bytewise then None else Some meta.Comparator
 
 -- the type of the index: 0 and 1 are one row for each data block, 2 has two levels
+-- RocksDB: include/rocksdb/table.h, IndexType; 3 is refused
+-- Pinned by: types_of_the_index, orders_and_types
 abbrev pub index_type_by : Option ℕ → Option MetaFault
 index_type_by None = Some (meta.BadProperty name.IndexType)
 index_type_by (Some type) = if nat_lt 2 type then Some (meta.IndexType type) else None
@@ -76,15 +93,21 @@ index_type_fault None = None
 index_type_fault (Some value) = index_type_by (fixed_in 4 value)
 
 -- the value is there, and is this number of four bytes
+-- Own.
+-- Pinned by: types_of_the_index, files_of_other_databases
 abbrev pub is_valued : ℕ → Option (List ℕ) → Bool
 is_valued n None = false
 is_valued n (Some value) = is_number n (fixed_in 4 value)
 
 -- the file is marked: it was made outside a database, and all its entries have one sequence number, which it says
+-- RocksDB: sst_file_writer_collectors.h; what is refused is own
+-- Pinned by: files_of_other_databases, marks
 abbrev pub is_marked : Option (List ℕ) → Bool
 is_marked external = is_valued 2 external
 
 -- a marked file has the sequence number, which is below 2^56
+-- RocksDB: sst_file_writer_collectors.h; what is refused is own
+-- Pinned by: files_of_other_databases, marks
 abbrev pub global_in : Option (List ℕ) → Option MetaFault
 global_in None = Some (meta.MissingProperty name.GlobalSequence)
 global_in (Some value) =
@@ -94,6 +117,8 @@ abbrev pub global_fault : Option (List ℕ) → Option (List ℕ) → Option Met
 global_fault external global = if is_marked external then global_in global else None
 
 -- a file that was made outside a database has version 1, which says nothing more, or version 2, which marks it
+-- RocksDB: sst_file_writer_collectors.h; what is refused is own
+-- Pinned by: files_of_other_databases, marks
 abbrev pub external_fault : Option (List ℕ) → Option MetaFault
 external_fault None = None
 external_fault (Some value) =
@@ -102,16 +127,22 @@ external_fault (Some value) =
     else Some (meta.BadProperty name.ExternalVersion)
 
 -- a flag of the index is a varint
+-- RocksDB: table_properties.cc
+-- Pinned by: flags, forms_that_are_not_read
 abbrev pub flag_fault : Name → Option (List ℕ) → Option MetaFault
 flag_fault name None = None
 flag_fault name (Some value) = if is_some (varint_in value) then None else Some (meta.BadProperty name)
 
 -- the flag is set
+-- RocksDB: table_properties.cc
+-- Pinned by: flags, forms_that_are_not_read
 abbrev pub is_flag : Option (List ℕ) → Bool
 is_flag None = false
 is_flag (Some value) = not (is_number 0 (varint_in value))
 
 -- a form that isn't read yet: an index of two levels, or one with user keys or differences, or a mark
+-- Own, for now.
+-- Pinned by: forms_that_are_not_read
 abbrev pub form_fault : List Row → Option MetaFault
 form_fault props =
     if is_valued 2 (value_of (name_bytes name.IndexType) props) then Some meta.NotYet
@@ -121,12 +152,14 @@ form_fault props =
     else None
 
 -- one fault, or else another
+-- Pinned by: the_first_of_the_properties
 abbrev pub or_else : Option MetaFault → Option MetaFault → Option MetaFault
 or_else None next = next
 or_else (Some fault) next = Some fault
 
 -- the first fault of the properties that are looked at: the order of user keys, then the others by their names, then a
 -- form that isn't read yet
+-- Pinned by: the_first_of_the_properties
 unfoldable pub props_fault : List Row → Option MetaFault
 props_fault props =
     or_else (comparator_fault (value_of comparator props))
@@ -138,6 +171,8 @@ props_fault props =
     (form_fault props))))))
 
 -- the properties, if they have no fault
+-- Own.
+-- Pinned by: a_file_loads_as_it_says, properties_that_are_good
 abbrev pub unless_fault : List Row → Option MetaFault → Result (Option (List Row)) MetaFault
 unless_fault props None = Ok (Some props)
 unless_fault props (Some fault) = Err fault
@@ -146,32 +181,38 @@ abbrev pub sound_props : List Row → Result (Option (List Row)) MetaFault
 sound_props props = unless_fault props (props_fault props)
 
 -- the properties in the block at a handle
+-- Pinned by: metaindex_names, tombstones_before_properties
 abbrev pub props_in : List ℕ → ℕ → Option Handle → Result (Option (List Row)) MetaFault
 props_in file end None = Err (meta.BadProperty name.Properties)
 props_in file end (Some h) = then_open (block_at meta.Frame (meta.Block h) Names file end h) sound_props
 
 -- the properties to which the metaindex leads; a file with no such name has none
+-- Pinned by: metaindex_names, tombstones_before_properties
 abbrev pub props_at : List ℕ → ℕ → Option (List ℕ) → Result (Option (List Row)) MetaFault
 props_at file end None = Ok None
 props_at file end (Some value) = props_in file end (handle_in value)
 
 -- the properties of a file whose metaindex has these rows
+-- Pinned by: metaindex_names, tombstones_before_properties
 unfoldable pub props_read : List ℕ → ℕ → List Row → Result (Option (List Row)) MetaFault
 props_read file end names =
     if is_some (value_of range_tombstones names) then Err meta.RangeTombstones
     else props_at file end (value_of (name_bytes name.Properties) names)
 
 -- all that was read
+-- Pinned by: a_file_loads_as_it_says, no_names
 abbrev pub as_loaded : List ℕ → Footer → List Row → Option (List Row) → Loaded
 as_loaded file footer names props = record { len = length file; footer = footer; names = names; props = props }
 
 -- the metaindex and what it leads to
+-- Pinned by: a_file_loads_as_it_says, no_names
 abbrev pub names_read : List ℕ → ℕ → Footer → Result Loaded MetaFault
 names_read file end footer =
     then_open (block_at meta.Frame (meta.Block footer.meta) Names file end footer.meta)
     (λ names. then_open (props_read file end names) (λ props. Ok (as_loaded file footer names props)))
 
 -- what the file says of itself, or the first thing that is wrong
+-- Pinned by: a_file_loads_as_it_says, a_file_of_two_to_the_forty_bytes
 unfoldable pub load_read : List ℕ → Result Loaded MetaFault
 load_read file =
     if nat_lt (length file) (2 ^ 40)

@@ -2,6 +2,7 @@
 -- RocksDB: table/format.h (Footer), table/meta_blocks.h (MetaIndexBuilder, PropertyBlockBuilder),
 -- include/rocksdb/table_properties.h; wiki page "Rocksdb BlockBasedTable Format". For now it isn't said of a file whose
 -- index has two levels, user keys or differences, and of one with a global sequence number.
+-- Pinned by: a_file_loads_as_it_says
 use Rattle.std.specs.Prelude.{◌≡◌, ◌⊎◌, ℕ, ◌^◌, ◌<◌, List, length, Option, None, Some, IfSome}
 use Rattle.sst_num.specs.Spelling.{fixed, varint, handle_spelling}
 use Rattle.sst_num.specs.declared.block_handle.Handle.{Handle}
@@ -15,12 +16,14 @@ use Rattle.sst_meta.specs.declared.name.Name.TheVariants as name
 use Rattle.sst_meta.specs.declared.loading.Loaded.{Loaded}
 
 -- the framed block of names and values at a handle
+-- RocksDB: table/meta_blocks.cc
 pub record HasPairs (file : List ℕ) (end : ℕ) (handle : Handle) (pairs : List Row) : Type 0 where
   pub block : List ℕ
   pub framed : Framed file end handle block
   pub is : Block Names block pairs
 
 -- the metaindex, whose rows have this value or none for the properties, leads to them; without a value there are none
+-- RocksDB: table/meta_blocks.cc, FindMetaBlock
 abbrev pub LeadsToProps : List ℕ → ℕ → Option (List ℕ) → Option (List Row) → Type 0
 LeadsToProps file end None props = props ≡ None
 LeadsToProps file end (Some value) None = ⊥
@@ -28,6 +31,8 @@ LeadsToProps file end (Some value) (Some props) =
     (handle : Handle) × (value ≡ handle_spelling handle) × HasPairs file end handle props
 
 -- the properties that a reader looks at have good values, where they are there
+-- Own, for now.
+-- Pinned by: a_file_loads_as_it_says, good_properties
 pub record AreGood (props : List Row) : Type 0 where
   -- user keys are in bytewise order
   pub comparator_is : IfSome (value_of comparator props) (λ value. value ≡ bytewise)

@@ -2,6 +2,7 @@
 -- metaindex leads to, or of a property.
 -- RocksDB: Status::Corruption and Status::NotSupported of Footer::DecodeFrom in table/format.cc, of ReadTableProperties in
 -- table/meta_blocks.cc, and of BlockBasedTable::Open in table/block_based/block_based_table_reader.cc.
+-- Pinned by: a_meta_fault_is_shown
 use Rattle.std.specs.Prelude.{◌≡◌, ◌≢◌, ◌⊎◌, ℕ, ◌^◌, ◌<◌, ◌≤◌, List, length, None, Some}
 use Rattle.sst_num.specs.Spelling.{fixed, varint, handle_spelling}
 use Rattle.sst_num.specs.declared.block_handle.Handle.{Handle}
@@ -21,6 +22,7 @@ use Rattle.sst_meta.specs.declared.meta_fault.MetaFault.{MetaFault}
 use Rattle.sst_meta.specs.declared.meta_fault.MetaFault.TheVariants as meta
 
 -- the value is a block handle and nothing else
+-- RocksDB: table/format.h
 abbrev pub IsHandleOf : Handle → List ℕ → Type 0
 IsHandleOf handle value = (handle.offset < 2 ^ 64) × (handle.size < 2 ^ 64) × (value ≡ handle_spelling handle)
 
@@ -43,10 +45,12 @@ abbrev pub HasValue : List ℕ → List ℕ → List ℕ → Type 0
 HasValue file name value = (props : List Row) × HasProps file props × (value_of name props ≡ Some value)
 
 -- the footer or the metaindex leads to the block of names and values at this handle
+-- Own.
 abbrev pub IsMetaReached : List ℕ → ℕ → Handle → Type 0
 IsMetaReached file end handle = ((index : Handle) × FooterLeads file end handle index) ⊎ PropsLead file end handle
 
 -- the value of this name is there, and has another form than it must have
+-- Own.
 abbrev pub IsBadValue : List ℕ → Name → Type 0
 IsBadValue file name.Properties =
     (end : ℕ) × (names : List Row) × (value : List ℕ) × HasNames file end names
@@ -66,6 +70,7 @@ IsBadValue file name.IndexValueIsDeltaEncoded =
     (value : List ℕ) × HasValue file (name_bytes name.IndexValueIsDeltaEncoded) value × ((n : ℕ) → n < 2 ^ 64 → value ≡ varint n → ⊥)
 
 -- this name must be there, and isn't: a marked file has the sequence number
+-- Own.
 abbrev pub IsMissing : List ℕ → Name → Type 0
 IsMissing file name.GlobalSequence =
     (props : List Row) × HasProps file props × (value_of (name_bytes name.ExternalVersion) props ≡ Some (fixed 4 2))
@@ -77,10 +82,12 @@ IsMissing file name.IndexKeyIsUserKey = ⊥
 IsMissing file name.IndexValueIsDeltaEncoded = ⊥
 
 -- a flag of the index is set
+-- Own, for now.
 abbrev pub IsSet : List ℕ → Name → Type 0
 IsSet file name = (n : ℕ) × (0 < n) × (n < 2 ^ 64) × HasValue file (name_bytes name) (varint n)
 
 -- a form that isn't read yet: another kind of table, an index of two levels or with user keys or differences, a mark
+-- Own, for now.
 abbrev pub IsNotYet : List ℕ → Type 0
 IsNotYet file =
     IsOtherTable file ⊎ HasValue file (name_bytes name.IndexType) (fixed 4 2) ⊎ IsSet file name.IndexKeyIsUserKey

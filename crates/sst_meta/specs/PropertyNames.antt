@@ -2,6 +2,8 @@
 -- RocksDB: TablePropertiesNames in table/table_properties.cc.
 use Rattle.std.specs.Prelude.{ℕ, List, codes}
 
+-- the names, each as it stands in a file
+-- Pinned by: the_file_of_a_line
 abbrev pub data_size : List ℕ
 data_size = codes "rocksdb.data.size"
 

@@ -1,5 +1,6 @@
 -- The block of properties in its own words: one restart, and between names the longest shared fronts.
 -- RocksDB: PropertyBlockBuilder in table/meta_blocks.cc, and BlockBuilder::Add in table/block_based/block_builder.cc.
+-- Pinned by: properties_have_one_restart
 use Rattle.std.specs.Prelude.{ℕ, List, [], ◌∷◌, ◌++◌}
 use Rattle.std.specs.List.{flat_map}
 use Rattle.sst_num.specs.Spelling.{fixed}
@@ -11,5 +12,6 @@ sharing before [] = []
 sharing before (pair ∷ pairs) = record { shared = common before pair.key; row = pair } ∷ sharing pair.key pairs
 
 -- the pairs, then the one restart, which is 0, and that there is one
+-- RocksDB: table/block_based/block_builder.cc, Finish
 abbrev pub properties_block : List Row → List ℕ
 properties_block pairs = flat_map row_spelling (sharing [] pairs) ++ (fixed 4 0 ++ fixed 4 1)

@@ -2,6 +2,7 @@
 -- loaded of such a file.
 -- RocksDB: BlockBasedTableBuilder::Finish with WritePropertiesBlock and WriteFooter in
 -- table/block_based/block_based_table_builder.cc; PropertyBlockBuilder and MetaIndexBuilder in table/meta_blocks.cc.
+-- Pinned by: what_is_put_is_loaded
 use Rattle.std.specs.Prelude.{ℕ, ◌+◌, ◌^◌, ◌≤◌, List, [], ◌∷◌, ◌++◌, length, Some, All}
 use Rattle.sst_num.specs.Spelling.{handle_spelling}
 use Rattle.sst_num.specs.declared.block_handle.Handle.{Handle}
@@ -50,7 +51,8 @@ ending_of at version index pairs =
 abbrev pub file_with : List ℕ → ℕ → Handle → List Row → List ℕ
 file_with front version index pairs = front ++ ending_of (length front) version index pairs
 
--- what is loaded of it
+-- what is loaded of it: its length, that footer, that row, the properties
+-- RocksDB: BlockBasedTable::Open
 abbrev pub loaded_with : List ℕ → ℕ → Handle → List Row → Loaded
 loaded_with front version index pairs =
     record {
@@ -62,6 +64,7 @@ loaded_with front version index pairs =
 
 -- the pairs are properties that are read again: their names are in bytewise order and aren't too long, their block is
 -- short, and the values that a reader looks at are good
+-- Own.
 pub record AreProps (pairs : List Row) : Type 0 where
   pub forms : All (IsRow Names) pairs
   pub ordered : AreOrdered Names pairs

@@ -5,17 +5,22 @@ use Rattle.sst_num.specs.declared.block_handle.Handle.{Handle}
 
 -- a number in at most n + 1 groups of seven bits, the lowest group first; a byte of 128 and more says that
 -- another follows
+-- RocksDB: util/coding.h, EncodeVarint64
+-- Pinned by: varint_is_the_spelling, varints
 abbrev pub groups : ℕ → ℕ → List ℕ
 groups zero v = v ∷ []
 groups (suc n) v = if nat_lt v 128 then v ∷ [] else (v % 128 + 128) ∷ groups n (v / 128)
 
 -- the shortest spelling of a number below 2 ^ 64 as a varint, of at most ten bytes
+-- Pinned by: varint_is_the_only_spelling, varints
 unfoldable pub varint : ℕ → List ℕ
 varint v = groups 9 v
 
 -- some bytes spell a number in groups of seven bits: a byte below 128 is the last and stands for itself; one
 -- from 128 on has the low seven bits, and the bytes after it stand for the rest, which isn't 0. So there is no
 -- shorter spelling.
+-- RocksDB: util/coding.h, GetVarint64Ptr; that none is longer than it need be is own
+-- Pinned by: varint_is_the_spelling, varint_is_the_only_spelling
 abbrev pub IsVarint : List ℕ → ℕ → Type 0
 IsVarint [] v = ⊥
 IsVarint (b ∷ []) v = (b < 128) × (v ≡ b)
@@ -23,15 +28,20 @@ IsVarint (b ∷ c ∷ bytes) v =
     (128 ≤ b) × (b < 256) × ((high : ℕ) × (0 < high) × (v + 128 ≡ b + 128 * high) × IsVarint (c ∷ bytes) high)
 
 -- a number in n bytes, the lowest byte first
+-- Pinned by: fixed_reads_back, fixed_numbers
 abbrev pub fixed : ℕ → ℕ → List ℕ
 fixed zero v = []
 fixed (suc n) v = (v % 256) ∷ fixed n (v / 256)
 
 -- a block handle: where the block begins, and how long it is without its trailer
+-- RocksDB: table/format.cc, BlockHandle::EncodeTo
+-- Pinned by: handles
 abbrev pub handle_spelling : Handle → List ℕ
 handle_spelling h = varint h.offset ++ varint h.size
 
 -- the number that some bytes spell, the lowest byte first
+-- RocksDB: util/coding_lean.h, DecodeFixed64
+-- Pinned by: fixed_reads_back, fixed_numbers_read
 abbrev pub fixed_value : List ℕ → ℕ
 fixed_value [] = 0
 fixed_value (b ∷ bytes) = b + 256 * fixed_value bytes

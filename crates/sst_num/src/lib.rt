@@ -37,19 +37,14 @@
 //!
 //! # Promises
 //!
-//! - Each `put_` call appends the one spelling of its number. Where memory runs out it answers so, and
-//!   leaves the list as it was.
-//! - Each `take_` call reads the front of some bytes. It answers the value whose one spelling is there and
-//!   how many bytes that takes, or None exactly where there is none in range. What was put is taken again,
-//!   whatever follows ([`varint_is_taken_again`], [`varint32_is_taken_again`],
-//!   [`handle_is_taken_again`], [`fixed_is_taken_again`]). Nothing else is taken: what is read stands there
-//!   ([`what_is_read_stands_there`]).
-//! - A varint takes at most ten bytes, is the only spelling of its number whose last byte isn't a needless
-//!   zero ([`varint_is_the_only_spelling`]), and begins no other ([`no_varint_begins_another`]). So
-//!   varints that follow one another need no mark between them.
-//! - A fixed number that fits its bytes is read back from them ([`fixed_reads_back`]); [`fixed16`],
-//!   [`fixed32`] and [`fixed64`] read one from the front of a slice that is long enough.
-//!
+//! - Each `put_` call appends the one spelling of its number, or leaves the list as it was where memory runs out.
+//! - Each `take_` call answers the value whose one spelling is at the front and how many bytes that takes, or None exactly
+//!   where there is none in range. What was put is taken again ([`varint_is_taken_again`], [`varint32_is_taken_again`],
+//!   [`handle_is_taken_again`], [`fixed_is_taken_again`]), and nothing else is taken ([`what_is_read_stands_there`]).
+//! - A varint is the only spelling of its number ([`varint_is_the_spelling`], [`varint_is_the_only_spelling`]) and begins no
+//!   other ([`no_varint_begins_another`]). So varints that follow one another need no mark between them.
+//! - [`fixed16`], [`fixed32`] and [`fixed64`] read a number from the front of a slice that is long enough
+//!   ([`fixed_reads_back`]).
 //! - [`Bytes`] is a list of bytes that owns its memory. [`Memory`] says that memory ran out; [`Refused`] that, or for which
 //!   cause the arguments were refused; [`Stop`] that, or what is wrong with a file, or that the device failed.
 //!

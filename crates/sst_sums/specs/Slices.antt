@@ -1,4 +1,6 @@
 -- The checksum's step over whole bytes, as its tables have it.
+-- For proofs alone.
+-- Pinned by: crc32c
 use Rattle.std.specs.Prelude.{ℕ, zero, suc, ◌+◌, ◌*◌, List, [], ◌∷◌}
 use Rattle.sst_sums.specs.Sums.{crc_bits}
 

@@ -1,5 +1,6 @@
 -- The checksum of a stored block, bit by bit, and the masked form in which a file keeps it.
 -- RocksDB: util/crc32c.h (Value, Mask, Unmask), util/crc32c.cc.
+-- Pinned by: known_sums
 use Rattle.std.specs.Prelude.{ℕ, zero, suc, ◌+◌, ◌-◌, ◌*◌, ◌/◌, ◌%◌, ◌^◌, ◌==◌, if◌then◌else◌, List, fold, bit_xor}
 
 -- the remainder after one more bit: the polynomial of Castagnoli, its lowest power at the highest bit
@@ -20,9 +21,11 @@ unfoldable pub crc32c : List ℕ → ℕ
 crc32c bytes = bit_xor (fold crc_byte 0xFFFFFFFF bytes) 0xFFFFFFFF
 
 -- a checksum as it is stored: turned right by 15 bits, and a constant added, in 32 bits
+-- Pinned by: known_stored_forms
 abbrev pub mask : ℕ → ℕ
 mask c = (c / 2 ^ 15 + c % 2 ^ 15 * 2 ^ 17 + 0xa282ead8) % 2 ^ 32
 
 -- the checksum that was stored as m
+-- Pinned by: unmask.undoes, known_stored_forms
 abbrev pub unmask : ℕ → ℕ
 unmask m = let turned = (m + (2 ^ 32 - 0xa282ead8)) % 2 ^ 32 in turned / 2 ^ 17 + turned % 2 ^ 17 * 2 ^ 15

@@ -1,4 +1,5 @@
 -- The one line that is written for an entry, and the text of a list. These texts are this project's own.
+-- Pinned by: lines_of_replies, an_entry_line_is_that_of_its_entry
 use Rattle.std.specs.Prelude.{ℕ, List, [], ◌∷◌, ◌++◌, All}
 use Rattle.std.specs.List.{flat_map}
 use Rattle.std.specs.Fmt.{decimal}
@@ -25,13 +26,16 @@ entry_line e =
     hex_text e.user ++ (32 ∷ (decimal e.seq ++ (32 ∷ kind_letter e.kind ∷ 32 ∷ hex_text e.value)))
 
 -- the line of an entry and its line end
+-- Pinned by: a_list_reads_back
 abbrev pub ended_line : Entry → List ℕ
 ended_line e = entry_line e ++ 10 ∷ []
 
 -- the text of a list: the line of each entry and its line end
+-- Pinned by: a_list_reads_back
 abbrev pub lines_text : List Entry → List ℕ
 lines_text entries = flat_map ended_line entries
 
 -- the user key and the value of each entry are bytes
+-- Pinned by: a_list_reads_back, what_a_text_says_fits
 abbrev pub AreBytes : List Entry → Type 0
 AreBytes entries = All (λ e. IsBytes e.user × IsBytes e.value) entries

@@ -4,11 +4,13 @@ use Rattle.sst_text.specs.declared.lines.Found.{Found}
 use Rattle.sst_text.specs.declared.lines.Found.TheVariants.{Line, Long, Unended, End}
 use Rattle.sst_text.specs.Texts.{cut}
 
--- no byte is left, where that is told
+-- no byte is left, where that is modelled
+-- Pinned by: add_lines.ok, read_calls.ok
 abbrev pub IsRead : Option (List ℕ) → Type 0
 IsRead left = IfSome left (λ rest. rest ≡ [])
 
 -- a line that passes its limit: more bytes than that, and no line end among them
+-- Pinned by: add_lines.refused, read_calls.refused
 pub record BeginsLong (bytes : List ℕ) : Type 0 where
   pub front : List ℕ
   pub rest : List ℕ
@@ -17,6 +19,7 @@ pub record BeginsLong (bytes : List ℕ) : Type 0 where
   pub none : cut 10 front ≡ None
 
 -- what was found at the front of the bytes read so far, with `left` still to come
+-- Pinned by: add_lines.ok, add_lines.refused
 abbrev pub IsFound : Found → List ℕ → Option (List ℕ) → Type 0
 IsFound (Line n) bytes left = (n ≤ 40000000) × (cut 10 bytes ≡ Some (take n bytes, drop 1 (drop n bytes)))
 IsFound Long bytes left = BeginsLong bytes

@@ -1,5 +1,6 @@
--- The text of an entry: one line of four fields, each parted from the next by one blank. These texts are this
+-- The text of an entry: one line of four fields, each separated from the next by one blank. These texts are this
 -- project's own. A user key or a value is in hex digits of either case, `-` where it is empty.
+-- Pinned by: an_entry_line_reads_back, an_entry_line_is_that_of_its_entry
 use Rattle.std.specs.Prelude.{ℕ, ◌+◌, ◌-◌, ◌*◌, ◌^◌, ◌==◌, nat_lt, if◌then◌else◌, List, [], ◌∷◌, Option, Some, None, option_and_then}
 use Rattle.std.specs.Option.{option_map}
 use Rattle.std.specs.Result.{result_ok}
@@ -10,6 +11,7 @@ use Rattle.sst_key.specs.declared.entries.Kind.TheVariants.{Deletion, Value, Mer
 use Rattle.sst_key.specs.declared.entries.Entry.{Entry}
 
 -- the ? of the logic: the second step, if the first gave a value
+-- Pinned by: lines_that_are_no_entry_lines
 infixl 10 ◌>>=◌
 abbrev pub ◌>>=◌ : {A B : Type 0} → Option A → (A → Option B) → Option B
 o >>= f = option_and_then f o
@@ -19,7 +21,7 @@ abbrev pub cut : ℕ → List ℕ → Option (List ℕ × List ℕ)
 cut byte [] = None
 cut byte (x ∷ rest) = if x == byte then Some ([], rest) else option_map (λ parts. (x ∷ parts.0, parts.1)) (cut byte rest)
 
--- a user key or a value
+-- a user key or a value: hex digits, or `-`
 abbrev pub bytes_field : List ℕ → Option (List ℕ)
 bytes_field [] = None
 bytes_field (c ∷ []) = if c == 45 then Some [] else None
@@ -31,16 +33,19 @@ digits_from value [] = Some value
 digits_from value (c ∷ rest) = if is_ascii_digit c then digits_from (value * 10 + (c - 48)) rest else None
 
 -- a number below the end of sequence numbers
+-- Pinned by: lines_that_are_no_entry_lines, the_file_of_a_line
 abbrev pub in_range : ℕ → Option ℕ
 in_range seq = if nat_lt seq (2 ^ 56) then Some seq else None
 
 -- a sequence number: decimal digits without sign or leading zeros
+-- Pinned by: lists_that_fit, an_entry_line_is_that_of_its_entry
 abbrev pub seq_field : List ℕ → Option ℕ
 seq_field [] = None
 seq_field (c ∷ []) = digits_from 0 (c ∷ []) >>= in_range
 seq_field (c ∷ d ∷ rest) = if c == 48 then None else digits_from 0 (c ∷ d ∷ rest) >>= in_range
 
 -- the kind that a letter stands for: D, P, M or S
+-- Pinned by: the_kinds, an_entry_line_is_that_of_its_entry
 abbrev pub kind_of_letter : ℕ → Option Kind
 kind_of_letter c =
     if c == 68 then Some Deletion
@@ -56,6 +61,7 @@ kind_field (c ∷ []) = kind_of_letter c
 kind_field (c ∷ d ∷ rest) = None
 
 -- the four fields of a line, the sequence number and the kind read
+-- Pinned by: the_file_of_a_line, an_entry_line_is_that_of_its_entry
 pub record Fields : Type 0 where
   pub user : List ℕ
   pub seq : ℕ
@@ -72,6 +78,7 @@ fields_of line = do
   Some (record { user = a.0; seq = seq; kind = kind; value = c.1 })
 
 -- the entry of four fields
+-- Pinned by: the_file_of_a_line, an_entry_line_is_that_of_its_entry
 unfoldable pub entry_of_fields : Fields → Option Entry
 entry_of_fields fields = do
   user ← bytes_field fields.user
