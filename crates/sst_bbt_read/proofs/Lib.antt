@@ -14,3 +14,4 @@ pub mod RunsRead
 pub mod RunsWalked
 pub mod TableGrown
 pub mod WayOfBlocks
+pub mod BlocksOnce

@@ -4,7 +4,9 @@ ghost use Rattle.sst_device.specs.Folder.{file_of, misses};
 ghost use Rattle.sst_device.specs.Faults.{Rose};
 ghost use Rattle.sst_device.specs.Stops.{stop_as};
 ghost use Rattle.sst_bbt_read.specs.Opening.{blocks_read};
-ghost use Rattle.sst_bbt_read.specs.Reader.{Opened};
+ghost use Rattle.sst_bbt_read.specs.Reader.{Opened, OpensTo};
+ghost use Rattle.sst_bbt_spec.specs.BlockBased.{BlockBased};
+ghost use Rattle.sst_key.specs.declared.entries.Entry.{Entry as entry_type};
 ghost use Rattle.sst_bbt_read.specs.declared.bbt_fault.BbtFault.TheVariants as bbt;
 
 mod calls;
@@ -74,6 +76,8 @@ impl BbtReader {
         name: &str,
     ) -> Result<BbtReader, Stop<BbtFault>>
         ensures told { (file : List ℕ) → file_of (F.held files.old) name.now ≡ Some file → Opened result (blocks_read file) }
+        ensures stands { (file : List ℕ) (entries : List entry_type) → file_of (F.held files.old) name.now ≡ Some file → BlockBased file entries
+            → OpensTo result entries }
         ensures device { result ≡ Err Stop.Device → IsTrue (misses (F.held files.old) name.now 0)
             ⊎ Rose (F.faults files.old) (F.faults files.new) }
         ensures absent { IsTrue (misses (F.held files.old) name.now 0) → (result ≡ Err Stop.Device) ⊎ (result ≡ Err Stop.Memory) }

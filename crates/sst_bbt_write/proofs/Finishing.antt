@@ -1,5 +1,6 @@
 -- What a writer appends at the end is what stands behind the data blocks, and with it the file is the one of the list.
 use Rattle.std.proofs.Common.{◌≡◌, ℕ, ◌+◌, ◌^◌, ◌<◌, false, List, [], ◌∷◌, ◌++◌, length, refl, sym, ap, ◌∙◌, subst, append_assoc, arith}
+use Rattle.std.proofs.lemmas.List.Elements.{All-nil}
 use Rattle.sst_key.specs.declared.entries.Entry.{Entry}
 use Rattle.sst_block.specs.declared.row_form.RowForm.TheVariants.{Entries, Index}
 use Rattle.sst_block.specs.Builder.{Holds}
@@ -8,11 +9,11 @@ use Rattle.sst_bbt_spec.specs.BlockBased.{BlockBased}
 use Rattle.sst_bbt_write.specs.declared.bbt_writer.BbtWriter.{BbtWriter}
 use Rattle.sst_bbt_write.specs.declared.bbt_options.BbtOptions.{BbtOptions}
 use Rattle.sst_bbt_write.specs.declared.properties.Sizes.{Sizes}
-use Rattle.sst_bbt_write.specs.After.{After, cut_by}
+use Rattle.sst_bbt_write.specs.After.{After}
 use Rattle.sst_bbt_write.specs.Cut.{Blocks, cut_of, entries_in}
-use Rattle.sst_bbt_write.specs.Keeps.{Keeps, ended_last, with_room, with_entry}
+use Rattle.sst_bbt_write.specs.Keeps.{HasEntry, Keeps, ended_last, with_room, with_entry}
 use Rattle.sst_bbt_write.specs.Written.{Fits, Written, data_part, index_rows, index_block, sizes_of, end_of, end_part, file_of_blocks, table_of}
-use Rattle.sst_bbt_write.proofs.CutSteps.{cut_of-of, cut_of-steps, blocks-last}
+use Rattle.sst_bbt_write.proofs.CutSteps.{cut_of-steps, blocks-last}
 use Rattle.sst_bbt_write.proofs.IndexRoom.{index-room, data_part-le, weight-both}
 use Rattle.sst_bbt_write.proofs.Rows.{Fits-nil}
 use Rattle.sst_bbt_write.proofs.Stands.{stands}
@@ -22,53 +23,18 @@ use Rattle.sst_key.specs.Entry.{weight}
 pub kept-some : (w : BbtWriter) (cut : Blocks) (entries : List Entry) (bytes : List ℕ) → Keeps w cut entries bytes → 0 < w.rows → 0 < length cut.current
 kept-some w cut entries bytes kept some = let rows = kept.rows in omega arith
 
--- between two calls a writer keeps the list as it is cut
-pub keeps-from_after : (w : BbtWriter) (entries : List Entry) (bytes : List ℕ) → After w entries bytes → Keeps w (cut_by w entries) entries bytes
-keeps-from_after w entries bytes after =
-    let are = cut_of-of w.options.block_size entries in
-    record {
-      sound = after.sound;
-      joined = are.joined;
-      filled = are.filled;
-      block = after.block;
-      rows = after.rows;
-      index = after.index;
-      blocks = after.blocks;
-      data_size = after.data_size;
-      appended = after.appended;
-      last = after.last;
-      count = after.count;
-      keys = after.keys;
-      values = after.values;
-      weighs = after.weighs;
-      fits = after.fits;
-    }
-
--- and where it keeps it so, that is all that it keeps between two calls
-after-as_cut : (w : BbtWriter) (entries : List Entry) (bytes : List ℕ) → Keeps w (cut_by w entries) entries bytes → After w entries bytes
-after-as_cut w entries bytes kept =
-    record {
-      sound = kept.sound;
-      block = kept.block;
-      rows = kept.rows;
-      index = kept.index;
-      blocks = kept.blocks;
-      data_size = kept.data_size;
-      appended = kept.appended;
-      last = kept.last;
-      count = kept.count;
-      keys = kept.keys;
-      values = kept.values;
-      weighs = kept.weighs;
-      fits = kept.fits;
-    }
-
 -- so it is when an entry was added in its two steps
 pub after-added : (w : BbtWriter) (options : BbtOptions) (entries : List Entry) (e : Entry) (bytes : List ℕ) → w.options ≡ options
-    → Keeps w (with_entry (with_room options.block_size (cut_of options.block_size entries)) e) (entries ++ e ∷ []) bytes → After w (entries ++ e ∷ []) bytes
+    → Keeps w (with_entry (with_room options.block_size (cut_of options.block_size entries)) e) (entries ++ e ∷ []) bytes → After w options (entries ++ e ∷ []) bytes
 after-added w options entries e bytes same kept =
-    let cut = sym (cut_of-steps options.block_size entries e) ∙ ap (λ (o : BbtOptions). cut_of o.block_size (entries ++ e ∷ [])) (sym same) in
-    after-as_cut w (entries ++ e ∷ []) bytes (subst (λ (b : Blocks). Keeps w b (entries ++ e ∷ []) bytes) cut kept)
+    record {
+      chosen = same;
+      keeps = subst (λ (b : Blocks). Keeps w b (entries ++ e ∷ []) bytes) (sym (cut_of-steps options.block_size entries e)) kept;
+    }
+
+-- the room that a writer makes is that of its options
+pub room-of : (w : BbtWriter) (options : BbtOptions) (cut : Blocks) → w.options ≡ options → with_room w.options.block_size cut ≡ with_room options.block_size cut
+room-of w options cut same = ap (λ (o : BbtOptions). with_room o.block_size cut) same
 
 -- the numbers of the properties are those of the list
 pub rest-sizes : (w : BbtWriter) (cut : Blocks) (entries : List Entry) (bytes index : List ℕ) (n : ℕ) → Keeps w cut entries bytes
@@ -153,22 +119,27 @@ keeps-other w new cut entries bytes kept same =
     })
 
 -- a writer keeps the list of no entry
-pub after-none : (w : BbtWriter) → w.failed ≡ false → Holds w.block Entries 16 [] → w.rows ≡ 0 → Holds w.index (Index false false) 1 []
-    → w.blocks ≡ 0 → w.data_size ≡ 0 → w.last.items ≡ [] → w.count ≡ 0 → w.keys ≡ 0 → w.values ≡ 0 → w.weight ≡ 0 → After w [] []
+pub after-none : (w : BbtWriter) (options : BbtOptions) → w.options ≡ options → w.failed ≡ false → Holds w.block Entries 16 [] → w.rows ≡ 0 → Holds w.index (Index false false) 1 []
+    → w.blocks ≡ 0 → w.data_size ≡ 0 → w.last.items ≡ [] → w.count ≡ 0 → w.keys ≡ 0 → w.values ≡ 0 → w.weight ≡ 0 → After w options [] []
 unfolding cut_of
-after-none w sound block rows index blocks data_size last count keys values weighs =
+after-none w options chosen sound block rows index blocks data_size last count keys values weighs =
     record {
-      sound = sound;
-      block = block;
-      rows = rows;
-      index = index;
-      blocks = blocks;
-      data_size = data_size;
-      appended = refl;
-      last = last;
-      count = count;
-      keys = keys;
-      values = values;
-      weighs = weighs;
-      fits = Fits-nil;
+      chosen = chosen;
+      keeps = record {
+        sound = sound;
+        joined = refl;
+        filled = All-nil HasEntry;
+        block = block;
+        rows = rows;
+        index = index;
+        blocks = blocks;
+        data_size = data_size;
+        appended = refl;
+        last = last;
+        count = count;
+        keys = keys;
+        values = values;
+        weighs = weighs;
+        fits = Fits-nil;
+      };
     }

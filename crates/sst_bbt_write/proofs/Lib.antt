@@ -5,7 +5,6 @@ pub mod Ending
 pub mod Entering
 pub mod Finishing
 pub mod FullBlocks
-pub mod InUse
 pub mod IndexRoom
 pub mod IndexRows
 pub mod ListParts

@@ -15,6 +15,7 @@ ghost use Rattle.sst_bbt_spec.specs.Rows.{rows_of};
 ghost use Rattle.sst_bbt_write.specs.Cut.{Blocks, is_full};
 ghost use Rattle.sst_bbt_write.specs.Keeps.{Keeps, KeepsSome, ended_now, ended_last, with_room, with_entry};
 ghost use Rattle.sst_bbt_write.specs.Written.{Fits, Written, end_part, sizes_of};
+ghost use Rattle.sst_bbt_write.specs.declared.bbt_options.BbtOptions.{BbtOptions};
 
 use crate::bbt_options::BbtOptions;
 use crate::properties::Sizes;
@@ -105,8 +106,7 @@ fn index_block(alloc: Global) -> Result<BlockBuilder, Memory>
 impl BbtWriter {
     /// A writer of no entry.
     pub fn new(alloc: Global, options: BbtOptions) -> Result<BbtWriter, Memory>
-        ensures after { IfOk result (λ w. After w [] []) }
-        ensures options { IfOk result (λ w. w.options ≡ options) }
+        ensures { IfOk result (λ w. After w options [] []) }
     {
         Ok(BbtWriter {
             alloc,
@@ -135,19 +135,19 @@ impl BbtWriter {
     pub fn add(&mut self, e: EntryView<'_>, out: &mut Vec<u8>) -> Result<(), Refused<WriteFault>>
         requires seq { e.seq < 2 ^ 56 }
         requires writer { IsInUse self.old }
-        ensures ok { OnOk result ((entries : List Entry) (bytes : List ℕ) → After self.old entries bytes
+        ensures ok { OnOk result ((options : BbtOptions) (entries : List Entry) (bytes : List ℕ) → After self.old options entries bytes
             → (piece : List ℕ) × (out.new.items ≡ out.old.items ++ piece)
-            × After self.new (entries ++ entry_of e.entry ∷ []) (bytes ++ piece)) }
-        ensures good { OnOk result ((entries : List Entry) (bytes : List ℕ) → After self.old entries bytes
+            × After self.new options (entries ++ entry_of e.entry ∷ []) (bytes ++ piece)) }
+        ensures good { OnOk result ((options : BbtOptions) (entries : List Entry) (bytes : List ℕ) → After self.old options entries bytes
             → reason entries (entry_of e.entry) ≡ None) }
         ensures refused { (fault : WriteFault) → result ≡ Err (Refused.Cause fault)
-            → (entries : List Entry) (bytes : List ℕ) → After self.old entries bytes
-            → (reason entries (entry_of e.entry) ≡ Some fault) × After self.new entries bytes }
+            → (options : BbtOptions) (entries : List Entry) (bytes : List ℕ) → After self.old options entries bytes
+            → (reason entries (entry_of e.entry) ≡ Some fault) × After self.new options entries bytes }
         ensures out { (fault : WriteFault) → result ≡ Err (Refused.Cause fault) → out.new.items ≡ out.old.items }
         ensures grows { (rest : List ℕ) × (out.new.items ≡ out.old.items ++ rest) }
-        ensures options { self.new.options ≡ self.old.options }
         ensures memory { result ≡ Err Refused.Memory → HasFailed self.new }
         ensures later { HasFailed self.old → result ≡ Err Refused.Memory }
+        ensures in_use { IsInUse self.new }
     {
         if self.failed {
             return Err(Refused::Memory);
@@ -166,8 +166,8 @@ impl BbtWriter {
     ///
     /// Of a writer in which no call has failed.
     pub fn count(&self) -> u64
-        requires { (entries : List Entry) × (bytes : List ℕ) × After self.now entries bytes }
-        ensures exact { (entries : List Entry) (bytes : List ℕ) → After self.now entries bytes → result ≡ length entries }
+        requires { (options : BbtOptions) × (entries : List Entry) × (bytes : List ℕ) × After self.now options entries bytes }
+        ensures exact { (options : BbtOptions) (entries : List Entry) (bytes : List ℕ) → After self.now options entries bytes → result ≡ length entries }
         ensures few { result ≤ 2 ^ 22 }
     {
         self.count
@@ -178,8 +178,8 @@ impl BbtWriter {
     /// Where memory runs out, `out` holds its old bytes followed by any.
     pub fn finish(self, out: &mut Vec<u8>) -> Result<u64, Memory>
         requires { IsInUse self }
-        ensures written { IfOk result (λ count. (entries : List Entry) (bytes : List ℕ) → After self entries bytes
-            → (rest : List ℕ) × (out.new.items ≡ out.old.items ++ rest) × Written self.options (bytes ++ rest) entries
+        ensures written { IfOk result (λ count. (options : BbtOptions) (entries : List Entry) (bytes : List ℕ) → After self options entries bytes
+            → (rest : List ℕ) × (out.new.items ≡ out.old.items ++ rest) × Written options (bytes ++ rest) entries
             × (count ≡ length entries)) }
         ensures err { OnErr result ((rest : List ℕ) × (out.new.items ≡ out.old.items ++ rest)) }
         ensures later { HasFailed self → IsErr result }
@@ -286,18 +286,17 @@ impl BbtWriter {
     /// Adds an entry after the others, or refuses it.
     fn put(&mut self, e: &EntryView<'_>, out: &mut Vec<u8>) -> Result<(), Refused<WriteFault>>
         requires seq { e.now.seq < 2 ^ 56 }
-        requires writer { (entries : List Entry) × (bytes : List ℕ) × After self.old entries bytes }
-        ensures ok { OnOk result ((entries : List Entry) (bytes : List ℕ) → After self.old entries bytes
+        requires writer { (options : BbtOptions) × (entries : List Entry) × (bytes : List ℕ) × After self.old options entries bytes }
+        ensures ok { OnOk result ((options : BbtOptions) (entries : List Entry) (bytes : List ℕ) → After self.old options entries bytes
             → (piece : List ℕ) × (out.new.items ≡ out.old.items ++ piece)
-            × After self.new (entries ++ entry_of e.now ∷ []) (bytes ++ piece)) }
-        ensures good { OnOk result ((entries : List Entry) (bytes : List ℕ) → After self.old entries bytes
+            × After self.new options (entries ++ entry_of e.now ∷ []) (bytes ++ piece)) }
+        ensures good { OnOk result ((options : BbtOptions) (entries : List Entry) (bytes : List ℕ) → After self.old options entries bytes
             → reason entries (entry_of e.now) ≡ None) }
         ensures refused { (fault : WriteFault) → result ≡ Err (Refused.Cause fault)
-            → (entries : List Entry) (bytes : List ℕ) → After self.old entries bytes
-            → (reason entries (entry_of e.now) ≡ Some fault) × After self.new entries bytes }
+            → (options : BbtOptions) (entries : List Entry) (bytes : List ℕ) → After self.old options entries bytes
+            → (reason entries (entry_of e.now) ≡ Some fault) × After self.new options entries bytes }
         ensures out { (fault : WriteFault) → result ≡ Err (Refused.Cause fault) → out.new.items ≡ out.old.items }
         ensures grows { (rest : List ℕ) × (out.new.items ≡ out.old.items ++ rest) }
-        ensures options { self.new.options ≡ self.old.options }
     {
         self.key.clear();
         pack(&mut self.key, e.user, e.seq, e.kind)?;

@@ -3,6 +3,7 @@ pub mod Faults
 pub mod Plans
 pub mod MemFiles
 pub mod MemPlans
+pub mod Outside
 pub mod Stops
 pub mod Framed
 pub mod FrameReading

@@ -9,6 +9,7 @@ ghost use Rattle.sst_device.specs.Faults.{Rose};
 ghost use Rattle.sst_device.specs.Stops.{stop_as};
 ghost use Rattle.sst_meta.specs.Blocks.{rows_checked, then_open};
 ghost use Rattle.sst_bbt_spec.specs.Rows.{rows_of};
+ghost use Rattle.sst_bbt_read.specs.TableBlocks.{IsOpenTable};
 ghost use Rattle.sst_bbt_read.specs.Opening.{index_read, runs_read, data_read, handle_read, with_rows};
 ghost use Rattle.sst_bbt_read.specs.Reader.{Opened, BlockAdded, Stopped};
 ghost use Rattle.sst_bbt_read.specs.declared.bbt_fault.BbtFault.TheVariants as bbt;
@@ -41,6 +42,7 @@ pub fn open_index<F: Folder>(
     end: u64,
     handle: Handle,
 ) -> Result<BbtReader, Stop<BbtFault>>
+    ensures table { IfOk result IsOpenTable }
     ensures told { (file : List ℕ) → file_of (F.held files.old) name.now ≡ Some file → end ≤ length file
         → Opened result (index_read file end handle) }
     ensures device { result ≡ Err Stop.Device → IsTrue (misses (F.held files.old) name.now end)
@@ -65,6 +67,7 @@ fn open_blocks<F: Folder>(
     index: &[u8],
 ) -> Result<BbtReader, Stop<BbtFault>>
     requires { length index.now ≤ 2 ^ 29 }
+    ensures table { IfOk result IsOpenTable }
     ensures told { (file : List ℕ) → file_of (F.held files.old) name.now ≡ Some file → end ≤ length file
         → Opened result (then_open (rows_checked (bbt.Block handle) (Index false false) index.now) (runs_read file end)) }
     ensures device { result ≡ Err Stop.Device → IsTrue (misses (F.held files.old) name.now end)
@@ -111,6 +114,7 @@ fn read_runs<F: Folder>(
 ) -> Result<BbtReader, Stop<BbtFault>>
     requires short { length index.now ≤ 2 ^ 29 }
     requires read { (rows : List Row) × Reads (Index false false) index.now rows × (length rows ≡ count) }
+    ensures table { IfOk result IsOpenTable }
     ensures told { (file : List ℕ) → file_of (F.held files.old) name.now ≡ Some file → end ≤ length file
         → (rows : List Row) → Reads (Index false false) index.now rows → length rows ≡ count
         → Opened result (runs_read file end rows) }

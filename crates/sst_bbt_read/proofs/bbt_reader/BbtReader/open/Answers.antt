@@ -1,5 +1,6 @@
-use Rattle.std.proofs.Common.{◌≤◌, length, Option, ap, ◌∙◌, arith}
+use Rattle.std.proofs.Common.{◌≤◌, Err, length, Option, ap, ◌∙◌, arith}
 use Rattle.sst_device.specs.Folder.{Files, file_of}
+use Rattle.sst_bbt_read.proofs.BlocksOnce.{opens_to}
 use Rattle.sst_bbt_read.proofs.OpenSteps.{stopped, loaded_length, after_load, whole_failed}
 use Rattle.sst_bbt_read.proofs.bbt_reader.BbtReader.open.Goals as goal
 
@@ -19,3 +20,11 @@ returns-in-Ok-clause-device g c = λ failed.
     (g.F.Folder.faults c.load.new.files) (g.F.Folder.faults c.open_index.new.files) c.load.ensures.same_files c.load.ensures.counts
     (λ file told. omega (arith, c.saturating_sub-end.ensures, loaded_length file c.in-Ok.loaded (c.in-Ok.ensures.told file told)))
     (c.open_index.ensures.device failed)
+
+pub returns-in-Ok-clause-stands : goal.returns-in-Ok-clause-stands
+returns-in-Ok-clause-stands g c = λ file entries told stands.
+    opens_to c.open_index.result file entries c.open_index.ensures.table (returns-in-Ok-clause-told g c file told) stands
+
+pub returns-in-Err-clause-stands : goal.returns-in-Err-clause-stands
+returns-in-Err-clause-stands g c = λ file entries told stands.
+    opens_to (Err c.meta_stop.result) file entries tt (returns-in-Err-clause-told g c file told) stands

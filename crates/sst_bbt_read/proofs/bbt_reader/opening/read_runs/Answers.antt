@@ -120,3 +120,10 @@ returns-clause-same_files g c = c.loop-row.invariant.same_files
 
 pub returns-clause-counts : goal.returns-clause-counts
 returns-clause-counts g c = omega (arith, c.loop-row.invariant.counts)
+
+pub returns-clause-table : goal.returns-clause-table
+returns-clause-table g c =
+    let so = c.loop-row.invariant.runs in
+    let r = c.requires.read in
+    table_walked c.args.index.now c.args.count r.0 c.loop-row._row c.loop-row.ends.items c.loop-row.entries.items c.requires.short (r.1, r.2) (omega (arith, c.loop-row-test.false))
+    (so.keys r.0 (r.1, r.2)) so.are so.blocks

@@ -1,17 +1,17 @@
 use Rattle.std.proofs.Common.{inl, inr, ◌∙◌, ap, List, ℕ, ◌++◌, append_assoc}
 use Rattle.std.proofs.lemmas.Result.{IfOk-weaker, on_err_weaker}
 use Rattle.sst_bbt_write.specs.Keeps.{ended_last}
-use Rattle.sst_bbt_write.specs.After.{cut_by}
+use Rattle.sst_bbt_write.specs.Cut.{cut_of}
 use Rattle.sst_bbt_write.specs.Written.{end_part, sizes_of}
 use Rattle.sst_bbt_write.proofs.TableParts.{grown}
-use Rattle.sst_bbt_write.proofs.Finishing.{keeps-from_after, finished}
+use Rattle.sst_bbt_write.proofs.Finishing.{finished}
 use Rattle.sst_bbt_write.proofs.bbt_writer.BbtWriter.finish.Goals as goal
 
 pub end_last-requires : goal.end_last-requires
 end_last-requires c =
     elim c.requires [
       | inl failed ↦ absurd (cc (failed, c.if-self.false))
-      | inr w ↦ (cut_by c.args.self w.0, w.0, w.1, keeps-from_after c.args.self w.0 w.1 w.2)
+      | inr w ↦ (cut_of w.0.block_size w.1, w.1, w.2, w.3.keeps)
     ]
 
 pub put_rest-requires : goal.put_rest-requires
@@ -19,20 +19,20 @@ put_rest-requires c =
     elim c.requires [
       | inl failed ↦ absurd (cc (failed, c.if-self.false))
       | inr w ↦
-          let put = c.in_ok-end_last.ensures.ok (cut_by c.args.self w.0) w.0 w.1 (keeps-from_after c.args.self w.0 w.1 w.2) in
-          (ended_last (cut_by c.args.self w.0), w.0, w.1 ++ put.0, put.2)
+          let put = c.in_ok-end_last.ensures.ok (cut_of w.0.block_size w.1) w.1 w.2 w.3.keeps in
+          (ended_last (cut_of w.0.block_size w.1), w.1, w.2 ++ put.0, put.2)
     ]
 
 pub returns-clause-written : goal.returns-clause-written
 returns-clause-written c =
     IfOk-weaker c.put_rest.result _ _
-    (λ count put entries bytes a.
-    let cut = cut_by c.args.self entries in
-    let last = c.in_ok-end_last.ensures.ok cut entries bytes (keeps-from_after c.args.self entries bytes a) in
+    (λ count put options entries bytes a.
+    let cut = cut_of options.block_size entries in
+    let last = c.in_ok-end_last.ensures.ok cut entries bytes a.keeps in
     let rest = put (ended_last cut) entries (bytes ++ last.0) last.2 in
     let end = end_part (ended_last cut).ended (sizes_of (ended_last cut).ended entries) in
     let all = rest.0 ∙ ap (λ (l : List ℕ). l ++ end) last.1 ∙ append_assoc c.args.out.now.items last.0 end in
-    (last.0 ++ end, all, finished c.args.self.options entries bytes last.0 a.fits last.2.appended, rest.1))
+    (last.0 ++ end, all, finished options entries bytes last.0 a.keeps.fits last.2.appended, rest.1))
     c.put_rest.ensures.written
 
 pub returns-clause-err : goal.returns-clause-err

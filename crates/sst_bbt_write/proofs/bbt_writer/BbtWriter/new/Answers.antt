@@ -2,6 +2,6 @@ use Rattle.std.proofs.Common.{refl}
 use Rattle.sst_bbt_write.proofs.Finishing.{after-none}
 use Rattle.sst_bbt_write.proofs.bbt_writer.BbtWriter.new.Goals as goal
 
-pub returns-clause-after : goal.returns-clause-after
-returns-clause-after c =
-    after-none _ refl c.in_ok-data_block.ensures refl c.in_ok-index_block.ensures refl refl c.new.ensures.items refl refl refl refl
+pub returns : goal.returns
+returns c =
+    after-none _ _ refl refl c.in_ok-data_block.ensures refl c.in_ok-index_block.ensures refl refl c.new.ensures.items refl refl refl refl
