@@ -1,4 +1,5 @@
 pub mod BlocksRead
+pub mod EndingPut
 pub mod FileEnds
 pub mod FooterKinds
 pub mod FooterLaws
@@ -17,6 +18,7 @@ pub mod PropsRules
 pub mod PropsShown
 pub mod PutLoads
 pub mod ReadSteps
+pub mod RowsPut
 pub mod SaidOnce
 pub mod Setting
 pub mod ValueRules

@@ -10,5 +10,6 @@ pub mod BlockFooter
 pub mod LoadReading
 pub mod Meta
 pub mod MetaFaults
+pub mod MetaRows
 pub mod Put
 pub mod Drawn

@@ -10,7 +10,7 @@ use sst_num::{Bytes, Memory};
 use std::alloc::Global;
 
 /// How many rows a restart begins: so many that a block has one restart alone.
-const ROWS_PER_RESTART: u32 = 65_536;
+pub const ROWS_PER_RESTART: u32 = 65_536;
 
 /// Makes the block of the properties of a table file, from names that come in bytewise order.
 ///

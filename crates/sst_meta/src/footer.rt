@@ -34,7 +34,7 @@ pub struct Footer {
 /// The checksum type of a file whose blocks have a masked CRC32C.
 ///
 /// RocksDB: `kCRC32c` in include/rocksdb/table.h.
-const CHECKSUM_TYPE: u8 = 1;
+pub const CHECKSUM_TYPE: u8 = 1;
 
 /// The first version of block-based files that is read.
 const FIRST_VERSION: u32 = 2;

@@ -88,12 +88,15 @@
 //! specs/LoadReading.antt), or that the device failed or memory ran out. What a file says is told by its footer, its
 //! blocks and their rows, and never by reading (`Meta`, specs/Meta.antt); what is loaded is exactly that
 //! ([`a_file_loads_as_it_says`], [`a_footer_is_read`]). A fault is one that the file shows (`ShowsMeta`,
-//! specs/MetaFaults.antt), and a file that loads shows none ([`a_meta_fault_is_shown`]). A file that ends in a properties
-//! block, a metaindex that leads to it and a footer (`file_with`, specs/Put.antt) is loaded as these
+//! specs/MetaFaults.antt), and a file that loads shows none ([`a_meta_fault_is_shown`]).
+//!
+//! [`put_ending`] ends a file: it takes the properties as a list, and appends the properties block, the metaindex block
+//! that leads to it, and the footer (`ending_of`, specs/Put.antt). A file with this end (`file_with`) is loaded as these
 //! ([`what_is_put_is_loaded`]).
 #![tactic(auto)]
 
 mod builder;
+mod ending;
 mod footer;
 mod footer_laws;
 mod laws;
@@ -101,6 +104,7 @@ mod loading;
 mod loading_laws;
 mod looked_at;
 mod meta_fault;
+mod meta_row;
 mod name;
 pub mod names;
 mod pair;
@@ -108,6 +112,7 @@ mod props;
 mod values;
 
 pub use builder::PropsBuilder;
+pub use ending::put_ending;
 pub use footer::{Footer, format_of, put_footer, read_footer};
 pub use footer_laws::a_footer_reads_back;
 pub use laws::{a_name_has_one_value, properties_have_one_restart};
@@ -116,5 +121,6 @@ pub use loading_laws::{
     a_file_loads_as_it_says, a_footer_is_read, a_meta_fault_is_shown, what_is_put_is_loaded,
 };
 pub use meta_fault::MetaFault;
+pub use meta_row::{MetaRow, MetaValue};
 pub use name::Name;
 pub use props::Props;
