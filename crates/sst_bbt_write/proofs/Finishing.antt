@@ -19,6 +19,11 @@ use Rattle.sst_bbt_write.proofs.Rows.{Fits-nil}
 use Rattle.sst_bbt_write.proofs.Stands.{stands}
 use Rattle.sst_key.specs.Entry.{weight}
 
+-- what grew twice grew
+pub grown : (old middle new : List ℕ) → ((rest : List ℕ) × (middle ≡ old ++ rest)) → ((rest : List ℕ) × (new ≡ middle ++ rest)) → (rest : List ℕ) × (new ≡ old ++ rest)
+grown old middle new first second =
+    (first.0 ++ second.0, second.1 ∙ ap (λ (l : List ℕ). l ++ second.0) first.1 ∙ append_assoc old first.0 second.0)
+
 -- the block has an entry where it counts a row
 pub kept-some : (w : BbtWriter) (cut : Blocks) (entries : List Entry) (bytes : List ℕ) → Keeps w cut entries bytes → 0 < w.rows → 0 < length cut.current
 kept-some w cut entries bytes kept some = let rows = kept.rows in omega arith

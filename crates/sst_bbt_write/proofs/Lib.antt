@@ -9,8 +9,6 @@ pub mod IndexRoom
 pub mod IndexRows
 pub mod ListParts
 pub mod OneCut
-pub mod PropertiesStand
 pub mod PropertyRows
 pub mod Rows
 pub mod Stands
-pub mod TableParts

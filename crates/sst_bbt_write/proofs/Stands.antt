@@ -17,7 +17,7 @@ use Rattle.sst_bbt_write.proofs.IndexRoom.{data_part-le}
 use Rattle.sst_bbt_write.proofs.IndexRows.{filled, index_block-short, index_block-is}
 use Rattle.sst_bbt_write.proofs.DataBlocks.{indexed, rows-lead, entries-run}
 use Rattle.sst_bbt_write.proofs.PropertyRows.{properties-short}
-use Rattle.sst_bbt_write.proofs.PropertiesStand.{properties-are}
+use Rattle.sst_bbt_write.proofs.PropertyRows.{properties-are}
 
 -- what stands before the properties block: the stored data blocks, and the stored index block
 abbrev front_of : List ℕ → List ℕ → List ℕ

@@ -1,21 +1,18 @@
 //! The properties that are written: what a file says of itself.
-ghost use Rattle.std.specs.Prelude.{◌≡◌, IfOk, OnOk, List, [], ◌∷◌, ◌++◌};
-ghost use Rattle.sst_block.specs.Block.{Row};
-ghost use Rattle.sst_meta.specs.Builder.{Holds};
-ghost use Rattle.sst_num.specs.Spelling.{varint};
-ghost use Rattle.sst_bbt_write.specs.NextProperty.{IsNextProperty, kind_properties};
-ghost use Rattle.sst_meta.specs.Put.{props_for};
+ghost use Rattle.std.specs.Prelude.{◌≡◌};
+ghost use Rattle.sst_meta.specs.MetaRows.{rows_given};
 ghost use Rattle.sst_bbt_write.specs.Written as written;
 
-use sst_meta::{PropsBuilder, names};
-use sst_num::{Bytes, Memory, put_fixed32, put_varint64};
-use std::alloc::Global;
+use sst_meta::{MetaRow, MetaValue, names};
 
 /// The type of an index that is searched by halving. RocksDB: `kBinarySearch` in include/rocksdb/table.h.
 const BINARY_SEARCH: u32 = 0;
 
 /// The version of the format that is written.
-const VERSION: u64 = 2;
+pub const VERSION: u32 = 2;
+
+/// How many properties a file has.
+const COUNT: usize = 12;
 
 /// The numbers that the properties of a file say.
 ///
@@ -36,46 +33,61 @@ pub struct Sizes {
     pub values: u64,
 }
 
-/// Sets the next property, whose value is a varint.
-fn set_number(alloc: Global, props: &mut PropsBuilder, name: &[u8], n: u64) -> Result<(), Memory>
-    requires { (pairs : List Row) × Holds props.old pairs × IsNextProperty pairs (written.property name.now (varint n)) }
-    ensures { OnOk result ((pairs : List Row) → Holds props.old pairs
-        → Holds props.new (pairs ++ written.property name.now (varint n) ∷ [])) }
-{
-    let mut value = Vec::new(alloc);
-    put_varint64(&mut value, n)?;
-    props.set(name, &value)
-}
-
-/// Sets the properties of the index type and the order of user keys.
-fn set_kind(alloc: Global, props: &mut PropsBuilder) -> Result<(), Memory>
-    requires { Holds props.old [] }
-    ensures { OnOk result (Holds props.new kind_properties) }
-{
-    let mut value = Vec::new(alloc);
-    put_fixed32(&mut value, BINARY_SEARCH)?;
-    props.set(names::INDEX_TYPE, &value)?;
-    props.set(names::COMPARATOR, names::BYTEWISE_COMPARATOR)
-}
-
-/// The properties block of a file with these numbers.
+/// The properties of a file with these numbers, in bytewise order of their names.
 ///
 /// RocksDB: `BlockBasedTableBuilder::WritePropertiesBlock` in table/block_based/block_based_table_builder.cc, and
 /// `PropertyBlockBuilder::AddTableProperty` in table/meta_blocks.cc.
-pub fn properties_block(alloc: Global, sizes: Sizes) -> Result<Bytes, Memory>
-    ensures { IfOk result (λ block. block ≡ props_for (written.properties sizes)) }
+pub fn properties_of(sizes: Sizes) -> [MetaRow<'static>; COUNT]
+    ensures { rows_given result ≡ written.properties sizes }
 {
-    let mut props = PropsBuilder::new(alloc)?;
-    set_kind(alloc, &mut props)?;
-    set_number(alloc, &mut props, names::DATA_SIZE, sizes.data_size)?;
-    set_number(alloc, &mut props, names::FILTER_SIZE, 0)?;
-    set_number(alloc, &mut props, names::FORMAT_VERSION, VERSION)?;
-    set_number(alloc, &mut props, names::INDEX_KEY_IS_USER_KEY, 0)?;
-    set_number(alloc, &mut props, names::INDEX_SIZE, sizes.index_size)?;
-    set_number(alloc, &mut props, names::INDEX_VALUE_IS_DELTA_ENCODED, 0)?;
-    set_number(alloc, &mut props, names::NUM_DATA_BLOCKS, sizes.blocks)?;
-    set_number(alloc, &mut props, names::NUM_ENTRIES, sizes.entries)?;
-    set_number(alloc, &mut props, names::RAW_KEY_SIZE, sizes.keys)?;
-    set_number(alloc, &mut props, names::RAW_VALUE_SIZE, sizes.values)?;
-    props.finish()
+    [
+        MetaRow {
+            name: names::INDEX_TYPE,
+            value: MetaValue::Fixed32(BINARY_SEARCH),
+        },
+        MetaRow {
+            name: names::COMPARATOR,
+            value: MetaValue::Bytes(names::BYTEWISE_COMPARATOR),
+        },
+        MetaRow {
+            name: names::DATA_SIZE,
+            value: MetaValue::Varint(sizes.data_size),
+        },
+        MetaRow {
+            name: names::FILTER_SIZE,
+            value: MetaValue::Varint(0),
+        },
+        MetaRow {
+            name: names::FORMAT_VERSION,
+            value: MetaValue::Varint(VERSION as u64),
+        },
+        MetaRow {
+            name: names::INDEX_KEY_IS_USER_KEY,
+            value: MetaValue::Varint(0),
+        },
+        MetaRow {
+            name: names::INDEX_SIZE,
+            value: MetaValue::Varint(sizes.index_size),
+        },
+        MetaRow {
+            name: names::INDEX_VALUE_IS_DELTA_ENCODED,
+            value: MetaValue::Varint(0),
+        },
+        MetaRow {
+            name: names::NUM_DATA_BLOCKS,
+            value: MetaValue::Varint(sizes.blocks),
+        },
+        MetaRow {
+            name: names::NUM_ENTRIES,
+            value: MetaValue::Varint(sizes.entries),
+        },
+        MetaRow {
+            name: names::RAW_KEY_SIZE,
+            value: MetaValue::Varint(sizes.keys),
+        },
+        MetaRow {
+            name: names::RAW_VALUE_SIZE,
+            value: MetaValue::Varint(sizes.values),
+        },
+    ]
 }

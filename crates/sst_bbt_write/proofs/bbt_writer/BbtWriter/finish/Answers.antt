@@ -3,8 +3,7 @@ use Rattle.std.proofs.lemmas.Result.{IfOk-weaker, on_err_weaker}
 use Rattle.sst_bbt_write.specs.Keeps.{ended_last}
 use Rattle.sst_bbt_write.specs.Cut.{cut_of}
 use Rattle.sst_bbt_write.specs.Written.{end_part, sizes_of}
-use Rattle.sst_bbt_write.proofs.TableParts.{grown}
-use Rattle.sst_bbt_write.proofs.Finishing.{finished}
+use Rattle.sst_bbt_write.proofs.Finishing.{finished, grown}
 use Rattle.sst_bbt_write.proofs.bbt_writer.BbtWriter.finish.Goals as goal
 
 pub end_last-requires : goal.end_last-requires
