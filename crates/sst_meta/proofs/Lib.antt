@@ -1,5 +1,6 @@
 pub mod BlocksRead
 pub mod EndingPut
+pub mod FaultsOrdered
 pub mod FileEnds
 pub mod FooterKinds
 pub mod FooterLaws

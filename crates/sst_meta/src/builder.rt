@@ -1,3 +1,4 @@
+//! The builder of a block of properties: names with their values come in order, and the block comes out.
 ghost use Rattle.std.specs.Prelude.{◌≡◌, List, [], ◌∷◌, ◌++◌, IfOk, OnOk, OnErr};
 ghost use Rattle.std.specs.Result.{IsErr};
 ghost use Rattle.sst_block.specs.declared.row_form.RowForm.TheVariants.{Names};

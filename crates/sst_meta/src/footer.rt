@@ -70,10 +70,10 @@ const CUCKOO_MAGIC: u64 = 0x9267_89d0_c5f1_7873;
 /// How many bytes a magic number takes.
 const MAGIC_LENGTH: usize = 8;
 
-/// How many bytes a footer takes.
+/// How many bytes a footer takes that isn't legacy.
 ///
 /// RocksDB: `Footer::kNewVersionsEncodedLength` in table/format.h.
-const FOOTER_LENGTH: usize = 53;
+pub const FOOTER_LENGTH: usize = 53;
 
 /// How many bytes a footer of version 0 takes.
 ///

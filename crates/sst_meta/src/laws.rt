@@ -1,3 +1,4 @@
+//! Laws of names and values: a name has one value, and a block of properties one restart.
 ghost use Rattle.std.specs.Prelude.{◌≡◌, ℕ, ◌≤◌, List, length, None, Some};
 ghost use Rattle.sst_block.specs.declared.row_form.RowForm.TheVariants.{Names};
 ghost use Rattle.sst_block.specs.Block.{Row, AreOrdered};

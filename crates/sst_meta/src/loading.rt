@@ -14,12 +14,12 @@ ghost use Rattle.sst_meta.specs.LoadReading.{load_read, end_read, names_read, pr
 ghost use Rattle.sst_meta.specs.declared.meta_fault.MetaFault.TheVariants as meta;
 
 use crate::footer::{Footer, format_of, read_footer};
-use crate::looked_at::fault_of;
+use crate::known_properties::fault_of;
 use crate::meta_fault::MetaFault;
 use crate::name::Name;
 use crate::names::RANGE_DEL;
+use crate::property_values::handle_in;
 use crate::props::Props;
-use crate::values::handle_in;
 use sst_device::{DevStop, Folder, FrameFault, draw, draw_framed};
 use sst_key::Format;
 use sst_num::{Bytes, Handle, Refused, Stop};
@@ -31,7 +31,7 @@ const FILE_LIMIT: u64 = 1 << 40;
 /// The most bytes that a footer takes, and those of each block-based file that is read.
 ///
 /// RocksDB: `Footer::kMaxEncodedLength` in table/format.h.
-const FOOTER_LENGTH: u64 = 53;
+const FOOTER_LENGTH: u64 = crate::footer::FOOTER_LENGTH as u64;
 
 /// What a table file says of itself.
 ///

@@ -1,3 +1,4 @@
+//! What may be wrong with what a file says of itself.
 use crate::name::Name;
 use sst_block::BlockFault;
 use sst_device::FrameFault;

@@ -1,3 +1,4 @@
+//! The names that damage may be told of.
 ghost use Rattle.std.specs.Prelude.{◌≡◌};
 ghost use Rattle.sst_meta.specs.Names.{name_bytes};
 

@@ -1,3 +1,4 @@
+//! A name and a value of a meta block that was read, each a copy.
 ghost use Rattle.std.specs.Prelude.{◌≡◌, IfOk};
 ghost use Rattle.sst_meta.specs.Pairs.{row_of};
 

@@ -1,3 +1,4 @@
+//! The names and values of a meta block that was read: checked, kept in memory, and looked up.
 ghost use Rattle.std.specs.Prelude.{◌≡◌, ◌⊎◌, ℕ, ◌<◌, ◌≤◌, ◌^◌, List, length, Some, Ok, Err, IfOk, IfErr, option_map, slice_get};
 ghost use Rattle.sst_num.specs.declared.stops.Refused.TheVariants as refused;
 ghost use Rattle.sst_block.specs.declared.row_form.RowForm.TheVariants.{Names};

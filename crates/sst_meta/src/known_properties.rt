@@ -1,4 +1,4 @@
-//! The properties that a reader looks at, and what may be wrong with them.
+//! The properties that a reader knows, and what may be wrong with their values.
 ghost use Rattle.std.specs.Prelude.{◌≡◌};
 ghost use Rattle.std.specs.Option.{option_map};
 ghost use Rattle.sst_meta.specs.LoadReading as reading;
@@ -6,8 +6,8 @@ ghost use Rattle.sst_meta.specs.LoadReading as reading;
 use crate::meta_fault::MetaFault;
 use crate::name::Name;
 use crate::names::{BYTEWISE_COMPARATOR, COMPARATOR};
+use crate::property_values::{fixed32_in, fixed64_in, varint_in};
 use crate::props::Props;
-use crate::values::{fixed32_in, fixed64_in, varint_in};
 
 /// The index types below this one are read or known: binary search, hash search, two levels.
 ///
@@ -174,14 +174,14 @@ pub fn fault_of(props: &Props) -> Option<MetaFault>
     let global = props.get(Name::GlobalSequence.as_slice());
     let user_key = props.get(Name::IndexKeyIsUserKey.as_slice());
     let delta = props.get(Name::IndexValueIsDeltaEncoded.as_slice());
-    let fault = form_fault(props);
-    let fault = or_fault(flag_fault(Name::IndexValueIsDeltaEncoded, delta), fault);
-    let fault = or_fault(flag_fault(Name::IndexKeyIsUserKey, user_key), fault);
-    let fault = or_fault(external_fault(external), fault);
-    let fault = or_fault(global_fault(external, global), fault);
+    let fault = comparator_fault(props.get(COMPARATOR));
     let fault = or_fault(
-        index_type_fault(props.get(Name::IndexType.as_slice())),
         fault,
+        index_type_fault(props.get(Name::IndexType.as_slice())),
     );
-    or_fault(comparator_fault(props.get(COMPARATOR)), fault)
+    let fault = or_fault(fault, global_fault(external, global));
+    let fault = or_fault(fault, external_fault(external));
+    let fault = or_fault(fault, flag_fault(Name::IndexKeyIsUserKey, user_key));
+    let fault = or_fault(fault, flag_fault(Name::IndexValueIsDeltaEncoded, delta));
+    or_fault(fault, form_fault(props))
 }
