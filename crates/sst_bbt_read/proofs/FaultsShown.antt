@@ -10,7 +10,8 @@ use Rattle.sst_meta.specs.Blocks.{as_fault, block_at}
 use Rattle.sst_meta.specs.FooterReading.{last_bytes}
 use Rattle.sst_meta.specs.LoadReading.{load_read}
 use Rattle.sst_meta.proofs.BlocksRead.{RowsAt, block_at-found, block_at-fault}
-use Rattle.sst_meta.proofs.LoadsRead.{load-sound, load-shown}
+use Rattle.sst_meta.proofs.FirstStep.{load-shown}
+use Rattle.sst_meta.proofs.LoadsRead.{load-sound}
 use Rattle.sst_meta.proofs.ReadSteps.{then_open-err, as_fault-ok, as_fault-err}
 use Rattle.sst_bbt_spec.specs.Reached.{HasIndex, IndexLeads}
 use Rattle.sst_bbt_read.specs.Opening.{handle_of, with_rows, data_read, led_read, runs_read, opened_read, blocks_read}

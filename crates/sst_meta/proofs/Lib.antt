@@ -1,5 +1,6 @@
 pub mod BlocksRead
 pub mod FileEnds
+pub mod FirstStep
 pub mod FooterKinds
 pub mod FooterLaws
 pub mod FooterPut
@@ -11,6 +12,7 @@ pub mod HandlesRead
 pub mod LoadsRead
 pub mod Named
 pub mod NoMetaFault
+pub mod OneOrder
 pub mod OneRestart
 pub mod PairsRead
 pub mod PropsRules
@@ -19,5 +21,7 @@ pub mod PutLoads
 pub mod ReadSteps
 pub mod SaidOnce
 pub mod Setting
+pub mod StepsFail
+pub mod StepsRead
 pub mod ValueRules
 pub mod ValuesRead

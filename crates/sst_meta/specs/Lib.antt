@@ -12,3 +12,4 @@ pub mod Meta
 pub mod MetaFaults
 pub mod Put
 pub mod Drawn
+pub mod LoadSteps

@@ -88,7 +88,8 @@
 //! specs/LoadReading.antt), or that the device failed or memory ran out. What a file says is told by its footer, its
 //! blocks and their rows, and never by reading (`Meta`, specs/Meta.antt); what is loaded is exactly that
 //! ([`a_file_loads_as_it_says`], [`a_footer_is_read`]). A fault is one that the file shows (`ShowsMeta`,
-//! specs/MetaFaults.antt), and a file that loads shows none ([`a_meta_fault_is_shown`]). A file that ends in a properties
+//! specs/MetaFaults.antt), and a file that loads shows none ([`a_meta_fault_is_shown`]). Of several faults it is the one whose
+//! step comes first (`LoadStep`, specs/LoadSteps.antt; [`the_fault_of_loading_is_the_first`]). A file that ends in a properties
 //! block, a metaindex that leads to it and a footer (`file_with`, specs/Put.antt) is loaded as these
 //! ([`what_is_put_is_loaded`]).
 #![tactic(auto)]
@@ -113,7 +114,8 @@ pub use footer_laws::a_footer_reads_back;
 pub use laws::{a_name_has_one_value, properties_have_one_restart};
 pub use loading::{Loaded, load};
 pub use loading_laws::{
-    a_file_loads_as_it_says, a_footer_is_read, a_meta_fault_is_shown, what_is_put_is_loaded,
+    a_file_loads_as_it_says, a_footer_is_read, a_meta_fault_is_shown,
+    the_fault_of_loading_is_the_first, what_is_put_is_loaded,
 };
 pub use meta_fault::MetaFault;
 pub use name::Name;
