@@ -25,11 +25,6 @@ use std::marker::Model;
 #[cfg(test)]
 mod way_tests;
 
-/// The bytes of the footer of each block-based file that is read.
-///
-/// RocksDB: `Footer::kMaxEncodedLength` in table/format.h.
-const FOOTER_LENGTH: u64 = 53;
-
 /// A data block of a table that is open: its separator, and where its entries end.
 #[derive(Debug, Drop)]
 pub struct BlockEnd {
@@ -85,7 +80,7 @@ impl BbtReader {
         match load(alloc, files, name) {
             Err(stop) => Err(meta_stop(stop)),
             Ok(loaded) => {
-                let end = loaded.len.saturating_sub(FOOTER_LENGTH);
+                let end = loaded.end();
                 open_index(alloc, files, name, end, loaded.footer.index)
             }
         }

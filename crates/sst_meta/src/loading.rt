@@ -1,5 +1,5 @@
 //! What a table file says of itself: its length, its footer, its metaindex and its properties.
-ghost use Rattle.std.specs.Prelude.{◌≡◌, ◌≢◌, ℕ, ◌+◌, ◌*◌, ◌≤◌, ◌^◌, ◌⊎◌, List, length, Option, Some, Err, IsTrue, IfOk};
+ghost use Rattle.std.specs.Prelude.{◌≡◌, ◌≢◌, ℕ, ◌+◌, ◌-◌, ◌*◌, ◌≤◌, ◌^◌, ◌⊎◌, List, length, Option, Some, Err, IsTrue, IfOk};
 ghost use Rattle.sst_block.specs.declared.row_form.RowForm.TheVariants.{Names};
 ghost use Rattle.sst_device.specs.Folder.{file_of, misses};
 ghost use Rattle.sst_device.specs.Outside.{OnlyReads};
@@ -46,6 +46,15 @@ pub struct Loaded {
     pub names: Props,
     /// The properties, if the metaindex leads to a block of them.
     pub props: Option<Props>,
+}
+
+impl Loaded {
+    /// Where the footer begins, if the file is block-based.
+    pub fn end(&self) -> u64
+        ensures { result ≡ self.now.len - 53 }
+    {
+        self.len.saturating_sub(FOOTER_LENGTH)
+    }
 }
 
 /// Loads what the named file says of itself, or answers the first thing that is wrong.

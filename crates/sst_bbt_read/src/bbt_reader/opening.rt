@@ -16,8 +16,8 @@ ghost use Rattle.sst_bbt_read.specs.declared.bbt_fault.BbtFault.TheVariants as b
 
 use crate::bbt_fault::BbtFault;
 use crate::bbt_reader::{BbtReader, BlockEnd};
-use crate::block_rows::{add_entries, count_rows};
-use sst_block::{BlockIter, RowForm};
+use crate::block_rows::add_entries;
+use sst_block::{BlockIter, RowForm, check_block};
 use sst_device::{Folder, FrameFault, draw_framed};
 use sst_key::{Entry, KeyRoom};
 use sst_num::{Bytes, Handle, Memory, Refused, Stop, take_handle};
@@ -70,7 +70,7 @@ fn open_blocks<F: Folder>(
     ensures folder { OnlyReads (result ≡ Err Stop.Device) (IsTrue (misses (F.held files.old) name.now end))
         (F.held files.old) (F.held files.new) (F.faults files.old) (F.faults files.new) }
 {
-    match count_rows(alloc, index, INDEX_FORM) {
+    match check_block(alloc, index, INDEX_FORM) {
         Err(Refused::Cause(fault)) => Err(Stop::Damage(BbtFault::Block(handle, fault))),
         Err(Refused::Memory) => Err(Stop::Memory),
         Ok(count) => read_runs(alloc, files, name, end, index, count),
@@ -168,7 +168,7 @@ fn read_rows(
     ensures told { Stopped result (then_open (rows_checked (bbt.Block handle) Entries block.now) (with_rows handle)) }
     ensures device { result ≢ Err Stop.Device }
 {
-    match count_rows(alloc, block, RowForm::Entries) {
+    match check_block(alloc, block, RowForm::Entries) {
         Err(Refused::Cause(fault)) => Err(Stop::Damage(BbtFault::Block(handle, fault))),
         Err(Refused::Memory) => Err(Stop::Memory),
         Ok(0) => Err(Stop::Damage(BbtFault::EmptyBlock(handle))),

@@ -11,8 +11,8 @@ pub returns-in-Ok-clause-told : goal.returns-in-Ok-clause-told
 returns-in-Ok-clause-told g c = λ file told.
     let known = ap (λ (h : Option Files). file_of h c.args.name.now) c.load.ensures.folder.same_files ∙ told in
     let loaded = c.in-Ok.ensures.told file told in
-    let within : c.saturating_sub-end.result ≤ length file = omega (arith, c.saturating_sub-end.ensures, loaded_length file c.in-Ok.loaded loaded) in
-    after_load c.open_index.result c.in-Ok.loaded file c.saturating_sub-end.result loaded c.saturating_sub-end.ensures (c.open_index.ensures.told file known within)
+    let within : c.end-end.result ≤ length file = omega (arith, c.end-end.ensures, loaded_length file c.in-Ok.loaded loaded) in
+    after_load c.open_index.result c.in-Ok.loaded file c.end-end.result loaded c.end-end.ensures (c.open_index.ensures.told file known within)
 
 pub returns-in-Ok-clause-folder : goal.returns-in-Ok-clause-folder
 returns-in-Ok-clause-folder g c =
@@ -23,9 +23,9 @@ returns-in-Ok-clause-folder g c =
       counts = omega (arith, loads.counts, opens.counts);
       hides_none = grind (arith, loads.hides_none, opens.hides_none);
       cause = λ failed.
-          whole_failed (g.F.Folder.held c.args.files.now) (g.F.Folder.held c.load.new.files) c.args.name.now c.saturating_sub-end.result (g.F.Folder.faults c.args.files.now)
+          whole_failed (g.F.Folder.held c.args.files.now) (g.F.Folder.held c.load.new.files) c.args.name.now c.end-end.result (g.F.Folder.faults c.args.files.now)
           (g.F.Folder.faults c.load.new.files) (g.F.Folder.faults c.open_index.new.files) loads.same_files loads.counts
-          (λ file told. omega (arith, c.saturating_sub-end.ensures, loaded_length file c.in-Ok.loaded (c.in-Ok.ensures.told file told)))
+          (λ file told. omega (arith, c.end-end.ensures, loaded_length file c.in-Ok.loaded (c.in-Ok.ensures.told file told)))
           (opens.cause failed);
     }
 
