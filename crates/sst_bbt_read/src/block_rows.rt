@@ -1,27 +1,16 @@
 //! The rows of data blocks that were checked, as the entries that they stand for.
 ghost use Rattle.std.specs.Prelude.{◌≡◌, ◌≤◌, ◌^◌, List, ◌++◌, length, IfOk, OnOk};
 ghost use Rattle.sst_block.specs.Block.{Row, IsInternalKey};
-ghost use Rattle.sst_block.specs.Builder.{HasNoFlags};
-ghost use Rattle.sst_block.specs.Reading.{Gives, Reads, block_read};
+ghost use Rattle.sst_block.specs.Reading.{Reads};
 ghost use Rattle.sst_block.specs.declared.row_form.RowForm.TheVariants.{Entries};
 ghost use Rattle.sst_key.specs.declared.entries.Entry.{Entry};
 ghost use Rattle.sst_bbt_spec.specs.Rows.{rows_of, row_of, HasSeq};
 ghost use Rattle.sst_bbt_read.specs.TableBlocks.{AreEntries};
 
-use sst_block::{BlockFault, BlockIter, RowForm, check_block};
+use sst_block::{BlockIter, RowForm};
 use sst_key::{Entry, KeyRoom, unpack};
-use sst_num::{Bytes, Memory, Refused};
+use sst_num::{Bytes, Memory};
 use std::alloc::Global;
-
-/// How many rows a block has, or its first fault: `check_block` by its clause `exact` alone, which is all that its callers
-/// need.
-pub fn count_rows(alloc: Global, block: &[u8], form: RowForm) -> Result<u32, Refused<BlockFault>>
-    requires short { length block.now ≤ 2 ^ 29 }
-    requires form { HasNoFlags form }
-    ensures { Gives result (block_read form block.now) }
-{
-    check_block(alloc, block, form)
-}
 
 /// The entry of a row: its user key and its value are copied.
 fn entry_of(alloc: Global, key: &[u8], value: &[u8]) -> Result<Entry, Memory>

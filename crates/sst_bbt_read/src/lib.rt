@@ -32,6 +32,8 @@
 //! - A file opens to data blocks exactly where it reads as them ([`a_file_opens_to_its_blocks`]); a fault that is read is
 //!   one that the file shows ([`a_fault_is_shown`]); and a file that opens shows none
 //!   ([`a_file_that_opens_shows_no_fault`]).
+//! - Of several things that are wrong with a file, the one whose step comes first is named: the steps of loading, the index, the
+//!   data blocks in the order of the index (`OpenStep`, specs/OpeningSteps.antt; [`the_fault_of_opening_is_the_first`]).
 //! - Each call of a [`BbtReader`] moves its [`Cursor`] as the way of the index says (`way_answer`, sst_bbt_spec). Where the
 //!   separators separate, these are the answers of the list.
 //!
@@ -52,4 +54,5 @@ pub use bbt_fault::BbtFault;
 pub use bbt_reader::{BbtReader, BlockEnd, Cursor};
 pub use opening_laws::{
     a_fault_is_shown, a_file_opens_to_its_blocks, a_file_that_opens_shows_no_fault,
+    the_fault_of_opening_is_the_first,
 };

@@ -4,6 +4,7 @@ use crate::laws::{
 };
 use sst_bbt_read::{
     a_fault_is_shown, a_file_opens_to_its_blocks, a_file_that_opens_shows_no_fault,
+    the_fault_of_opening_is_the_first,
 };
 use sst_bbt_write::{a_list_is_cut_where_blocks_are_full, written_file_stands_for_its_list};
 use sst_text::{
@@ -26,4 +27,5 @@ fn laws(_rt: HostRuntime) {
     a_written_file_reads_back();
     a_fault_is_shown();
     a_file_that_opens_shows_no_fault();
+    the_fault_of_opening_is_the_first();
 }

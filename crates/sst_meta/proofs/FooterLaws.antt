@@ -1,5 +1,5 @@
 -- What the end of a file is read as is what its footer says, and a fault of it is one that it shows.
-use Rattle.std.proofs.Common.{◌≡◌, ◌≢◌, ℕ, ◌-◌, ◌==◌, ◌&&◌, nat_le, true, false, List, length, Option, None, Some, Result, Ok, Err, refl, ap, subst, ◌∙◌, inl, inr}
+use Rattle.std.proofs.Common.{◌≡◌, ◌≢◌, ℕ, ◌-◌, ◌==◌, ◌&&◌, nat_le, true, false, List, length, Option, None, Some, Result, Ok, Err, refl, ap, subst, ◌∙◌}
 use Rattle.std.proofs.lemmas.Bool.{eqb-true, eqb-false, both_ways, and_parts, and_from, leb-true, le-leb}
 use Rattle.sst_num.specs.declared.block_handle.Handle.{Handle}
 use Rattle.sst_key.specs.declared.calls.Format.TheVariants as Format
@@ -7,12 +7,11 @@ use Rattle.sst_meta.specs.Footer.{AreHandles}
 use Rattle.sst_meta.specs.FooterReading.{last_bytes, handles_read, as_footer, takes_version, fields_read}
 use Rattle.sst_meta.specs.declared.footer.Footer.{Footer}
 use Rattle.sst_meta.specs.declared.meta_fault.MetaFault.{MetaFault}
-use Rattle.sst_meta.specs.declared.meta_fault.MetaFault.TheVariants.{NotTable, Version, ChecksumType, BadFooter, NotYet}
+use Rattle.sst_meta.specs.declared.meta_fault.MetaFault.TheVariants.{Version, ChecksumType, BadFooter}
 use Rattle.sst_meta.proofs.HandlesRead.{handles_read-spelled, handles_read-found}
 use Rattle.sst_meta.proofs.FooterReads.{fields-taken}
-use Rattle.sst_meta.specs.BlockFooter.{AreBytes, EndsIn, IsBuilt, FooterLeads, block_footer}
+use Rattle.sst_meta.specs.BlockFooter.{EndsIn, IsBuilt, FooterLeads, block_footer}
 use Rattle.sst_meta.specs.LoadReading.{end_read}
-use Rattle.sst_meta.specs.MetaFaults.{ShowsMeta}
 use Rattle.sst_meta.proofs.FootersRead.{fields, legacy, other, none, end_reads, end_read-ends}
 use Rattle.sst_device.proofs.Choices.{by_test}
 
@@ -34,7 +33,7 @@ pub fields-handles : (version kind : ℕ) (between : List ℕ) (footer : Footer)
 fields-handles version kind between footer e = (with-handles version kind between (handles_read between) footer refl e).0
 
 -- nothing else is wrong with them
-no-handles : (version kind : ℕ) (between : List ℕ) (handles : Option (Handle × Handle)) (fault : MetaFault) → handles_read between ≡ handles
+pub no-handles : (version kind : ℕ) (between : List ℕ) (handles : Option (Handle × Handle)) (fault : MetaFault) → handles_read between ≡ handles
     → as_footer Format.Block false version kind handles ≡ Err fault → (BadFooter ≡ fault) × ((metaindex index : Handle) → AreHandles metaindex index between → ⊥)
 no-handles version kind between None fault read e = (cc, λ metaindex index are. cc (read, handles_read-spelled metaindex index between are))
 no-handles version kind between (Some handles) fault read e = cc
@@ -84,21 +83,4 @@ leads-read file footer e =
       | legacy ends e ↦ cc
       | other ends e ↦ cc
       | none not e ↦ cc
-    ]
-
--- a fault of the end of a file, whose last bytes are bytes, is one that the file shows
-pub footer_read-fault : (file : List ℕ) (fault : MetaFault) → AreBytes (last_bytes 53 file) → end_read (last_bytes 53 file) ≡ Err fault → ShowsMeta file fault
-footer_read-fault file fault bytes e =
-    elim (end_reads file (Err fault) e) [
-      | fields kind version between ends e ↦
-          by_version-cases kind version between (Err fault) e
-          (λ old e. let same : Version version ≡ fault = cc in subst (λ f. ShowsMeta file f) same (inr (length file - 53, kind, between, ends, old)))
-          (λ built is e. let same : ChecksumType kind ≡ fault = cc in subst (λ f. ShowsMeta file f) same (length file - 53, version, between, ends, built, is))
-          (λ built is e.
-          let found = no-handles version kind between (handles_read between) fault refl e in
-          subst (λ f. ShowsMeta file f) found.0
-          (length file - 53, version, between, subst (λ k. EndsIn file (length file - 53) k version between) is ends, built, found.1))
-      | legacy ends e ↦ let same : Version 0 ≡ fault = cc in subst (λ f. ShowsMeta file f) same (inl (ends, refl))
-      | other ends e ↦ let same : NotYet ≡ fault = cc in subst (λ f. ShowsMeta file f) same (inl ends)
-      | none not e ↦ let same : NotTable ≡ fault = cc in subst (λ f. ShowsMeta file f) same (not bytes)
     ]

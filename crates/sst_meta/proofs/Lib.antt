@@ -2,6 +2,7 @@ pub mod BlocksRead
 pub mod EndingPut
 pub mod FaultsOrdered
 pub mod FileEnds
+pub mod FirstStep
 pub mod FooterKinds
 pub mod FooterLaws
 pub mod FooterPut
@@ -13,6 +14,7 @@ pub mod HandlesRead
 pub mod LoadsRead
 pub mod Named
 pub mod NoMetaFault
+pub mod OneOrder
 pub mod OneRestart
 pub mod PairsRead
 pub mod PropsRules
@@ -22,5 +24,7 @@ pub mod ReadSteps
 pub mod RowsPut
 pub mod SaidOnce
 pub mod Setting
+pub mod StepsFail
+pub mod StepsRead
 pub mod ValueRules
 pub mod ValuesRead

@@ -1,6 +1,5 @@
--- What is loaded of a file is what it says of itself, and a fault is one that it shows.
-use Rattle.std.proofs.Common.{◌≡◌, ℕ, ◌^◌, ◌<◌, nat_lt, false, List, length, Option, None, Some, Result, Ok, Err, refl, sym, ap, subst, ◌∙◌, inl, inr, arith}
-use borrow.Author.Tests.{ltb-false}
+-- What is loaded of a file is what it says of itself.
+use Rattle.std.proofs.Common.{◌≡◌, ℕ, ◌^◌, ◌<◌, nat_lt, false, List, length, Option, None, Some, Result, Ok, Err, refl, sym, ap, subst, ◌∙◌, arith}
 use Rattle.std.specs.Prelude.{IfSome}
 use Rattle.std.specs.Option.{is_some}
 use Rattle.std.proofs.lemmas.Bool.{lt-ltb, ltb-true}
@@ -10,29 +9,27 @@ use Rattle.sst_block.specs.Block.{Row}
 use Rattle.sst_device.specs.Framed.{Framed}
 use Rattle.sst_device.proofs.Choices.{by_test}
 use Rattle.sst_meta.specs.Blocks.{then_open, block_at}
-use Rattle.sst_meta.specs.BlockFooter.{AreBytes, footer_start}
+use Rattle.sst_meta.specs.BlockFooter.{footer_start}
 use Rattle.sst_meta.specs.FooterReading.{last_bytes}
 use Rattle.sst_meta.specs.LoadReading.{end_read, handle_in, props_fault, unless_fault, sound_props, props_in, props_at, props_read, as_loaded, names_read, load_read}
 use Rattle.sst_meta.specs.Meta.{HasPairs, LeadsToProps, AreGood, Meta}
-use Rattle.sst_meta.specs.MetaFaults.{HasNames, PropsLead, ShowsMeta}
 use Rattle.sst_meta.specs.Names.{name_bytes, range_tombstones}
 use Rattle.sst_meta.specs.Pairs.{value_of}
 use Rattle.sst_meta.specs.declared.loading.Loaded.{Loaded}
 use Rattle.sst_meta.specs.declared.name.Name.TheVariants as name
 use Rattle.sst_meta.specs.declared.meta_fault.MetaFault.{MetaFault}
 use Rattle.sst_meta.specs.declared.meta_fault.MetaFault.TheVariants as meta
-use Rattle.sst_meta.proofs.BlocksRead.{RowsAt, block_at-rows, block_at-found, block_at-fault}
-use Rattle.sst_meta.proofs.FooterLaws.{footer_read-leads, leads-read, footer_read-fault}
+use Rattle.sst_meta.proofs.BlocksRead.{RowsAt, block_at-rows, block_at-found}
+use Rattle.sst_meta.proofs.FooterLaws.{footer_read-leads, leads-read}
 use Rattle.sst_meta.proofs.PropsRules.{good-no_fault, no_fault-good}
-use Rattle.sst_meta.proofs.PropsShown.{props_fault-shown}
-use Rattle.sst_meta.proofs.ReadSteps.{then_open-ok, then_open-err}
+use Rattle.sst_meta.proofs.ReadSteps.{then_open-ok}
 use Rattle.sst_meta.proofs.ValuesRead.{handle_in-handle, handle_in-found}
 
 -- the block of names and values at a handle, as rows that stand there
 pub pairs-rows : (file : List ℕ) (end : ℕ) (h : Handle) (pairs : List Row) → HasPairs file end h pairs → RowsAt Names file end h pairs
 pairs-rows file end h pairs has = record { bytes = has.block; framed = has.framed; block = has.is }
 
-rows-pairs : (file : List ℕ) (end : ℕ) (h : Handle) (pairs : List Row) → RowsAt Names file end h pairs → HasPairs file end h pairs
+pub rows-pairs : (file : List ℕ) (end : ℕ) (h : Handle) (pairs : List Row) → RowsAt Names file end h pairs → HasPairs file end h pairs
 rows-pairs file end h pairs at = record { block = at.bytes; framed = at.framed; is = at.block }
 
 -- a handle that is framed before the end of a short file is spelled as a handle
@@ -56,7 +53,7 @@ unless-ok : (rows : List Row) (fault : Option MetaFault) (props : Option (List R
 unless-ok rows None props e = (cc, refl)
 unless-ok rows (Some fault) props e = cc
 
-unless-err : (rows : List Row) (o : Option MetaFault) (fault : MetaFault) → unless_fault rows o ≡ Err fault → o ≡ Some fault
+pub unless-err : (rows : List Row) (o : Option MetaFault) (fault : MetaFault) → unless_fault rows o ≡ Err fault → o ≡ Some fault
 unless-err rows None fault e = cc
 unless-err rows (Some f) fault e = let same : f ≡ fault = cc in ap Some same
 
@@ -77,26 +74,6 @@ props-sound file end (Some value) props e =
           let at = block_at-found meta.Frame (meta.Block h) Names file end h rows tt found in
           subst (λ (p : Option (List Row)). LeadsToProps file end (Some value) p × IfSome p AreGood) passed.0
           ((h, (handle_in-found h value read).2, rows-pairs file end h rows at), no_fault-good rows passed.1))
-    ] refl e
-
--- a fault on the way to the properties is one that the file shows
-props-shown : (file : List ℕ) (end : ℕ) (names : List Row) (o : Option (List ℕ)) (fault : MetaFault) → HasNames file end names
-    → value_of (name_bytes name.Properties) names ≡ o → props_at file end o ≡ Err fault → ShowsMeta file fault
-props-shown file end names None fault has is e = cc
-props-shown file end names (Some value) fault has is e =
-    elim (handle_in value) as (λ (q : Option Handle). handle_in value ≡ q → props_in file end q ≡ Err fault → ShowsMeta file fault) [
-      | None ↦ λ none e.
-          let same : meta.BadProperty name.Properties ≡ fault = cc in
-          subst (λ f. ShowsMeta file f) same (end, names, value, has, is, λ h handle. cc (none, handle_in-handle h value handle))
-      | Some h ↦ λ read e.
-          let lead : PropsLead file end h = (names, value, has, is, handle_in-found h value read) in
-          then_open-err (block_at meta.Frame (meta.Block h) Names file end h) sound_props fault e
-          (λ first. block_at-fault meta.Frame (meta.Block h) Names file end h fault tt first
-          (λ f wrong same. subst (λ f. ShowsMeta file f) same (end, h, inr lead, wrong))
-          (λ block framed f wrong same. subst (λ f. ShowsMeta file f) same (end, block, inr lead, framed, wrong)))
-          (λ rows found last.
-          let at = block_at-found meta.Frame (meta.Block h) Names file end h rows tt found in
-          props_fault-shown file rows fault (end, h, lead, rows-pairs file end h rows at) (unless-err rows (props_fault rows) fault last))
     ] refl e
 
 -- range tombstones are seen before the properties
@@ -170,28 +147,3 @@ pub load-one : (file : List ℕ) (a b : Loaded) → Meta file a → Meta file b 
 load-one file a b left right =
     let same : Ok a ≡ Ok b = sym (load-complete file a left) ∙ load-complete file b right in
     cc
-
--- a fault of a file, whose last bytes are bytes, is one that it shows
-pub load-shown : (file : List ℕ) (fault : MetaFault) → AreBytes (last_bytes 53 file) → load_read file ≡ Err fault → ShowsMeta file fault
-unfolding load_read
-load-shown file fault bytes e =
-    let end = footer_start file in
-    by_test (nat_lt (length file) (2 ^ 40)) (then_open (end_read (last_bytes 53 file)) (names_read file end)) _ (Err fault) e
-    (λ short e. then_open-err (end_read (last_bytes 53 file)) _ fault e
-    (λ first. footer_read-fault file fault bytes first)
-    (λ footer read e.
-    let h = footer.meta in
-    let leads = (leads-read file footer read).0 in
-    then_open-err (block_at meta.Frame (meta.Block h) Names file end h) _ fault e
-    (λ first. block_at-fault meta.Frame (meta.Block h) Names file end h fault tt first
-    (λ f is same. subst (λ f. ShowsMeta file f) same (end, h, inl (footer.index, leads), is))
-    (λ block framed f is same. subst (λ f. ShowsMeta file f) same (end, block, inl (footer.index, leads), framed, is)))
-    (λ names found e.
-    let at = block_at-found meta.Frame (meta.Block h) Names file end h names tt found in
-    let has : HasNames file end names = (h, footer.index, leads, rows-pairs file end h names at) in
-    then_open-err (props_read file end names) _ fault e
-    (λ first. read-parts file end names (Err fault) first
-    (λ value is same. let same : meta.RangeTombstones ≡ fault = cc in subst (λ f. ShowsMeta file f) same (end, names, value, has, is))
-    (λ none wrong. props-shown file end names (value_of (name_bytes name.Properties) names) fault has refl wrong))
-    (λ props got last. cc))))
-    (λ long e. let same : meta.FileLong ≡ fault = cc in subst (λ f. ShowsMeta file f) same (ltb-false (length file) (2 ^ 40) long))

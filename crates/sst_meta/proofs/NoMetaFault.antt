@@ -19,7 +19,8 @@ use Rattle.sst_meta.specs.declared.name.Name.TheVariants as name
 use Rattle.sst_meta.specs.declared.meta_fault.MetaFault.{MetaFault}
 use Rattle.sst_meta.specs.declared.meta_fault.MetaFault.TheVariants as meta
 use Rattle.sst_meta.proofs.BlocksRead.{no-frame_fault, no-block_fault}
-use Rattle.sst_meta.proofs.LoadsRead.{handle-fits, load-sound, load-shown}
+use Rattle.sst_meta.proofs.FirstStep.{load-shown}
+use Rattle.sst_meta.proofs.LoadsRead.{handle-fits, load-sound}
 use Rattle.sst_meta.proofs.SaidOnce.{ends-good, ends-with, no-other, names-once, props-good, reached-rows}
 use Rattle.sst_meta.proofs.ValuesRead.{fixed_in-fixed, varint_in-varint}
 

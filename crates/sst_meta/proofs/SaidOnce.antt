@@ -57,16 +57,17 @@ footer-long file end kind version between ends =
     )
 
 -- it ends with the number of a block-based file, and so with no other
-pub ends-with : (file : List ℕ) (end : ℕ) (metaindex index : Handle) → FooterLeads file end metaindex index → EndsWith block_based_magic 53 file
-ends-with file end metaindex index leads =
-    let ends = leads.ends in
-    let between = leads.between in
+pub ends-magic : (file : List ℕ) (end kind version : ℕ) (between : List ℕ) → EndsIn file end kind version between → EndsWith block_based_magic 53 file
+ends-magic file end kind version between ends =
     let magic = fixed 8 block_based_magic in
-    let version = fixed 4 leads.version in
-    let front : List ℕ = ends.front ++ (1 ∷ (between ++ version)) in
+    let number = fixed 4 version in
+    let front : List ℕ = ends.front ++ (kind ∷ (between ++ number)) in
     let joined : file ≡ front ++ magic =
-    ends.ends ∙ ap (λ (l : List ℕ). ends.front ++ (1 ∷ l)) (sym (append_assoc between version magic)) ∙ sym (append_assoc ends.front (1 ∷ (between ++ version)) magic) in
-    (footer-long file end 1 leads.version between ends, (front, joined))
+    ends.ends ∙ ap (λ (l : List ℕ). ends.front ++ (kind ∷ l)) (sym (append_assoc between number magic)) ∙ sym (append_assoc ends.front (kind ∷ (between ++ number)) magic) in
+    (footer-long file end kind version between ends, (front, joined))
+
+pub ends-with : (file : List ℕ) (end : ℕ) (metaindex index : Handle) → FooterLeads file end metaindex index → EndsWith block_based_magic 53 file
+ends-with file end metaindex index leads = ends-magic file end 1 leads.version leads.between leads.ends
 
 pub no-other : (file : List ℕ) (end : ℕ) (metaindex index : Handle) (m n : ℕ) → FooterLeads file end metaindex index → m < 256 ^ 8 → 8 ≤ n → EndsWith m n file
     → block_based_magic ≡ m

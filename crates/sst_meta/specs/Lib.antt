@@ -13,3 +13,4 @@ pub mod MetaFaults
 pub mod MetaRows
 pub mod Put
 pub mod Drawn
+pub mod LoadSteps

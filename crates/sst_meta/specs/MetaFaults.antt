@@ -86,12 +86,17 @@ IsMissing file name.IndexValueIsDeltaEncoded = ⊥
 abbrev pub IsSet : List ℕ → Name → Type 0
 IsSet file name = (n : ℕ) × (0 < n) × (n < 2 ^ 64) × HasValue file (name_bytes name) (varint n)
 
--- a form that isn't read yet: another kind of table, an index of two levels or with user keys or differences, a mark
+-- the properties tell of a form that isn't read yet: an index of two levels or with user keys or differences, a mark
+-- Own, for now.
+abbrev pub IsOtherForm : List ℕ → Type 0
+IsOtherForm file =
+    HasValue file (name_bytes name.IndexType) (fixed 4 2) ⊎ IsSet file name.IndexKeyIsUserKey
+    ⊎ IsSet file name.IndexValueIsDeltaEncoded ⊎ HasValue file (name_bytes name.ExternalVersion) (fixed 4 2)
+
+-- the file isn't read yet: it is another kind of table, or of such a form
 -- Own, for now.
 abbrev pub IsNotYet : List ℕ → Type 0
-IsNotYet file =
-    IsOtherTable file ⊎ HasValue file (name_bytes name.IndexType) (fixed 4 2) ⊎ IsSet file name.IndexKeyIsUserKey
-    ⊎ IsSet file name.IndexValueIsDeltaEncoded ⊎ HasValue file (name_bytes name.ExternalVersion) (fixed 4 2)
+IsNotYet file = IsOtherTable file ⊎ IsOtherForm file
 
 -- the file shows the fault
 abbrev pub ShowsMeta : List ℕ → MetaFault → Type 0

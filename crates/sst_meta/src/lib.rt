@@ -88,7 +88,8 @@
 //! specs/LoadReading.antt), or that the device failed or memory ran out. What a file says is told by its footer, its
 //! blocks and their rows, and never by reading (`Meta`, specs/Meta.antt); what is loaded is exactly that
 //! ([`a_file_loads_as_it_says`], [`a_footer_is_read`]). A fault is one that the file shows (`ShowsMeta`,
-//! specs/MetaFaults.antt), and a file that loads shows none ([`a_meta_fault_is_shown`]).
+//! specs/MetaFaults.antt), and a file that loads shows none ([`a_meta_fault_is_shown`]). Of several faults it is the one whose
+//! step comes first (`LoadStep`, specs/LoadSteps.antt; [`the_fault_of_loading_is_the_first`]).
 //!
 //! [`put_ending`] ends a file: it takes the properties as a list, and appends the properties block, the metaindex block
 //! that leads to it, and the footer (`ending_of`, specs/Put.antt). A file with this end (`file_with`) is loaded as these
@@ -118,7 +119,8 @@ pub use footer_laws::a_footer_reads_back;
 pub use laws::{a_name_has_one_value, properties_have_one_restart};
 pub use loading::{Loaded, load};
 pub use loading_laws::{
-    a_file_loads_as_it_says, a_footer_is_read, a_meta_fault_is_shown, what_is_put_is_loaded,
+    a_file_loads_as_it_says, a_footer_is_read, a_meta_fault_is_shown,
+    the_fault_of_loading_is_the_first, what_is_put_is_loaded,
 };
 pub use meta_fault::MetaFault;
 pub use meta_row::{MetaRow, MetaValue};

@@ -1,10 +1,11 @@
 //! What is loaded of a file is what the file says of itself.
-ghost use Rattle.std.specs.Prelude.{◌≡◌, ◌⊎◌, ℕ, ◌-◌, ◌^◌, ◌<◌, List, length, Ok, Err};
+ghost use Rattle.std.specs.Prelude.{◌≡◌, ◌⊎◌, ℕ, ◌-◌, ◌^◌, ◌<◌, ◌≤◌, List, length, Ok, Err};
 ghost use Rattle.sst_num.specs.declared.block_handle.Handle.{Handle};
 ghost use Rattle.sst_block.specs.Block.{Row};
 ghost use Rattle.sst_meta.specs.BlockFooter.{AreBytes, FooterLeads, IsBuilt, block_footer, footer_start};
 ghost use Rattle.sst_meta.specs.FooterReading.{last_bytes};
 ghost use Rattle.sst_meta.specs.LoadReading.{end_read, load_read};
+ghost use Rattle.sst_meta.specs.LoadSteps.{LoadStep, number_of, FailsAt, FailsFirst};
 ghost use Rattle.sst_meta.specs.Meta.{Meta};
 ghost use Rattle.sst_meta.specs.MetaFaults.{ShowsMeta};
 ghost use Rattle.sst_meta.specs.Put.{AreProps, file_with, loaded_with};
@@ -48,6 +49,30 @@ pub fn a_meta_fault_is_shown()
     ensures none { (file : List ℕ) (loaded : Loaded) (fault : MetaFault) → Meta file loaded → ShowsMeta file fault → ⊥ }
     ensures either { (file : List ℕ) → AreBytes (last_bytes 53 file)
         → ((loaded : Loaded) × Meta file loaded) ⊎ ((fault : MetaFault) × ShowsMeta file fault) }
+{}
+
+/// Of several things that are wrong with a file, loading answers the one whose step comes first.
+///
+/// The steps have one order (`number_of`, specs/LoadSteps.antt), and what fails at a step is told by what stands in the file,
+/// whatever fails at other steps. `first`: a fault that is read fails at a step, and no earlier step fails. `read`: the fault
+/// of the first step that fails is read. `loads` and `all`: a file is loaded exactly where no step fails. `one`: a step fails
+/// with one fault at most. `shown`: each fault that a file shows fails at a step, and at none before the first that fails.
+///
+/// All but `loads` and `shown` hold where the last 53 numbers of the list are bytes, as those of a real file are.
+/// RocksDB: `BlockBasedTable::Open` in table/block_based/block_based_table_reader.cc.
+pub fn the_fault_of_loading_is_the_first()
+    ensures first { (file : List ℕ) (fault : MetaFault) → AreBytes (last_bytes 53 file) → load_read file ≡ Err fault
+        → (step : LoadStep) × FailsFirst file step fault }
+    ensures read { (file : List ℕ) (step : LoadStep) (fault : MetaFault) → AreBytes (last_bytes 53 file) → FailsFirst file step fault
+        → load_read file ≡ Err fault }
+    ensures loads { (file : List ℕ) (loaded : Loaded) (step : LoadStep) (fault : MetaFault) → load_read file ≡ Ok loaded
+        → FailsAt file step fault → ⊥ }
+    ensures all { (file : List ℕ) → AreBytes (last_bytes 53 file)
+        → ((step : LoadStep) (fault : MetaFault) → FailsAt file step fault → ⊥) → (loaded : Loaded) × (load_read file ≡ Ok loaded) }
+    ensures one { (file : List ℕ) (step : LoadStep) (a b : MetaFault) → AreBytes (last_bytes 53 file) → FailsAt file step a
+        → FailsAt file step b → a ≡ b }
+    ensures shown { (file : List ℕ) (step : LoadStep) (fault other : MetaFault) → FailsFirst file step fault → ShowsMeta file other
+        → (later : LoadStep) × FailsAt file later other × (number_of step ≤ number_of later) }
 {}
 
 /// What is put at the end of a file is loaded again: the properties block of a `PropsBuilder`, the metaindex that leads to

@@ -9,7 +9,8 @@ use sst_block::{
 };
 use sst_meta::{
     a_file_loads_as_it_says, a_footer_is_read, a_footer_reads_back, a_meta_fault_is_shown,
-    a_name_has_one_value, properties_have_one_restart, what_is_put_is_loaded,
+    a_name_has_one_value, properties_have_one_restart, the_fault_of_loading_is_the_first,
+    what_is_put_is_loaded,
 };
 
 #[test]
@@ -29,6 +30,7 @@ fn of_what_a_file_says(_rt: HostRuntime) {
     a_footer_is_read();
     a_file_loads_as_it_says();
     a_meta_fault_is_shown();
+    the_fault_of_loading_is_the_first();
     what_is_put_is_loaded();
 }
 

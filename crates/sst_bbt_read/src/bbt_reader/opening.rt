@@ -5,7 +5,7 @@ ghost use Rattle.sst_block.specs.Block.{Row, IsHandle};
 ghost use Rattle.sst_block.specs.Reading.{Reads};
 ghost use Rattle.sst_block.specs.declared.row_form.RowForm.TheVariants.{Entries, Index};
 ghost use Rattle.sst_device.specs.Folder.{file_of, misses};
-ghost use Rattle.sst_device.specs.Faults.{Rose};
+ghost use Rattle.sst_device.specs.Outside.{OnlyReads};
 ghost use Rattle.sst_device.specs.Stops.{stop_as};
 ghost use Rattle.sst_meta.specs.Blocks.{rows_checked, then_open};
 ghost use Rattle.sst_bbt_spec.specs.Rows.{rows_of};
@@ -16,8 +16,8 @@ ghost use Rattle.sst_bbt_read.specs.declared.bbt_fault.BbtFault.TheVariants as b
 
 use crate::bbt_fault::BbtFault;
 use crate::bbt_reader::{BbtReader, BlockEnd};
-use crate::block_rows::{add_entries, count_rows};
-use sst_block::{BlockIter, RowForm};
+use crate::block_rows::add_entries;
+use sst_block::{BlockIter, RowForm, check_block};
 use sst_device::{Folder, FrameFault, draw_framed};
 use sst_key::{Entry, KeyRoom};
 use sst_num::{Bytes, Handle, Memory, Refused, Stop, take_handle};
@@ -45,11 +45,8 @@ pub fn open_index<F: Folder>(
     ensures table { IfOk result IsOpenTable }
     ensures told { (file : List ℕ) → file_of (F.held files.old) name.now ≡ Some file → end ≤ length file
         → Opened result (index_read file end handle) }
-    ensures device { result ≡ Err Stop.Device → IsTrue (misses (F.held files.old) name.now end)
-        ⊎ Rose (F.faults files.old) (F.faults files.new) }
-    ensures same_files { F.held files.new ≡ F.held files.old }
-    ensures counts { F.faults files.old ≤ F.faults files.new }
-    ensures hides_none { (result ≡ Err Stop.Device) ⊎ (F.faults files.new ≡ F.faults files.old) }
+    ensures folder { OnlyReads (result ≡ Err Stop.Device) (IsTrue (misses (F.held files.old) name.now end))
+        (F.held files.old) (F.held files.new) (F.faults files.old) (F.faults files.new) }
 {
     match draw_framed(alloc, files, name, end, handle) {
         Err(stop) => Err(frame_stop(stop)),
@@ -70,13 +67,10 @@ fn open_blocks<F: Folder>(
     ensures table { IfOk result IsOpenTable }
     ensures told { (file : List ℕ) → file_of (F.held files.old) name.now ≡ Some file → end ≤ length file
         → Opened result (then_open (rows_checked (bbt.Block handle) (Index false false) index.now) (runs_read file end)) }
-    ensures device { result ≡ Err Stop.Device → IsTrue (misses (F.held files.old) name.now end)
-        ⊎ Rose (F.faults files.old) (F.faults files.new) }
-    ensures same_files { F.held files.new ≡ F.held files.old }
-    ensures counts { F.faults files.old ≤ F.faults files.new }
-    ensures hides_none { (result ≡ Err Stop.Device) ⊎ (F.faults files.new ≡ F.faults files.old) }
+    ensures folder { OnlyReads (result ≡ Err Stop.Device) (IsTrue (misses (F.held files.old) name.now end))
+        (F.held files.old) (F.held files.new) (F.faults files.old) (F.faults files.new) }
 {
-    match count_rows(alloc, index, INDEX_FORM) {
+    match check_block(alloc, index, INDEX_FORM) {
         Err(Refused::Cause(fault)) => Err(Stop::Damage(BbtFault::Block(handle, fault))),
         Err(Refused::Memory) => Err(Stop::Memory),
         Ok(count) => read_runs(alloc, files, name, end, index, count),
@@ -118,11 +112,8 @@ fn read_runs<F: Folder>(
     ensures told { (file : List ℕ) → file_of (F.held files.old) name.now ≡ Some file → end ≤ length file
         → (rows : List Row) → Reads (Index false false) index.now rows → length rows ≡ count
         → Opened result (runs_read file end rows) }
-    ensures device { result ≡ Err Stop.Device → IsTrue (misses (F.held files.old) name.now end)
-        ⊎ Rose (F.faults files.old) (F.faults files.new) }
-    ensures same_files { F.held files.new ≡ F.held files.old }
-    ensures counts { F.faults files.old ≤ F.faults files.new }
-    ensures hides_none { (result ≡ Err Stop.Device) ⊎ (F.faults files.new ≡ F.faults files.old) }
+    ensures folder { OnlyReads (result ≡ Err Stop.Device) (IsTrue (misses (F.held files.old) name.now end))
+        (F.held files.old) (F.held files.new) (F.faults files.old) (F.faults files.new) }
 {
     let room = KeyRoom::new(alloc)?;
     let mut rows = BlockIter::start(index, INDEX_FORM, room);
@@ -152,11 +143,8 @@ fn read_block<F: Folder>(
         → data_read file end (handle_read (handle_at value.now)) ≡ Ok (rows_of block.entries))) }
     ensures told { (file : List ℕ) → file_of (F.held files.old) name.now ≡ Some file → end ≤ length file
         → Stopped result (data_read file end (handle_read (handle_at value.now))) }
-    ensures device { result ≡ Err Stop.Device → IsTrue (misses (F.held files.old) name.now end)
-        ⊎ Rose (F.faults files.old) (F.faults files.new) }
-    ensures same_files { F.held files.new ≡ F.held files.old }
-    ensures counts { F.faults files.old ≤ F.faults files.new }
-    ensures hides_none { (result ≡ Err Stop.Device) ⊎ (F.faults files.new ≡ F.faults files.old) }
+    ensures folder { OnlyReads (result ≡ Err Stop.Device) (IsTrue (misses (F.held files.old) name.now end))
+        (F.held files.old) (F.held files.new) (F.faults files.old) (F.faults files.new) }
 {
     match take_handle(value) {
         None => unreachable!(),
@@ -180,7 +168,7 @@ fn read_rows(
     ensures told { Stopped result (then_open (rows_checked (bbt.Block handle) Entries block.now) (with_rows handle)) }
     ensures device { result ≢ Err Stop.Device }
 {
-    match count_rows(alloc, block, RowForm::Entries) {
+    match check_block(alloc, block, RowForm::Entries) {
         Err(Refused::Cause(fault)) => Err(Stop::Damage(BbtFault::Block(handle, fault))),
         Err(Refused::Memory) => Err(Stop::Memory),
         Ok(0) => Err(Stop::Damage(BbtFault::EmptyBlock(handle))),
