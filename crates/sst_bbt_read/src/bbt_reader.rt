@@ -1,7 +1,7 @@
 //! The reader of block-based files. A file is opened, or the first thing that is wrong with it is answered.
 ghost use Rattle.std.specs.Prelude.{◌≡◌, ℕ, ◌≤◌, ◌⊎◌, List, Some, Err, IsTrue};
 ghost use Rattle.sst_device.specs.Folder.{file_of, misses};
-ghost use Rattle.sst_device.specs.Faults.{Rose};
+ghost use Rattle.sst_device.specs.Outside.{OnlyReads};
 ghost use Rattle.sst_device.specs.Stops.{stop_as};
 ghost use Rattle.sst_bbt_read.specs.Opening.{blocks_read};
 ghost use Rattle.sst_bbt_read.specs.Reader.{Opened, OpensTo};
@@ -78,12 +78,9 @@ impl BbtReader {
         ensures told { (file : List ℕ) → file_of (F.held files.old) name.now ≡ Some file → Opened result (blocks_read file) }
         ensures stands { (file : List ℕ) (entries : List entry_type) → file_of (F.held files.old) name.now ≡ Some file → BlockBased file entries
             → OpensTo result entries }
-        ensures device { result ≡ Err Stop.Device → IsTrue (misses (F.held files.old) name.now 0)
-            ⊎ Rose (F.faults files.old) (F.faults files.new) }
+        ensures folder { OnlyReads (result ≡ Err Stop.Device) (IsTrue (misses (F.held files.old) name.now 0))
+            (F.held files.old) (F.held files.new) (F.faults files.old) (F.faults files.new) }
         ensures absent { IsTrue (misses (F.held files.old) name.now 0) → (result ≡ Err Stop.Device) ⊎ (result ≡ Err Stop.Memory) }
-        ensures same_files { F.held files.new ≡ F.held files.old }
-        ensures counts { F.faults files.old ≤ F.faults files.new }
-        ensures hides_none { (result ≡ Err Stop.Device) ⊎ (F.faults files.new ≡ F.faults files.old) }
     {
         match load(alloc, files, name) {
             Err(stop) => Err(meta_stop(stop)),

@@ -2,7 +2,7 @@
 ghost use Rattle.std.specs.Prelude.{◌≡◌, ◌≢◌, ℕ, ◌+◌, ◌*◌, ◌≤◌, ◌^◌, ◌⊎◌, List, length, Option, Some, Err, IsTrue, IfOk};
 ghost use Rattle.sst_block.specs.declared.row_form.RowForm.TheVariants.{Names};
 ghost use Rattle.sst_device.specs.Folder.{file_of, misses};
-ghost use Rattle.sst_device.specs.Faults.{Rose};
+ghost use Rattle.sst_device.specs.Outside.{OnlyReads};
 ghost use Rattle.sst_device.specs.Drawn.{block_drawn};
 ghost use Rattle.sst_device.specs.Stops.{Answers, stop_as};
 ghost use Rattle.sst_meta.specs.Blocks.{block_at, rows_checked};
@@ -60,12 +60,9 @@ pub struct Loaded {
 #[tactic(auto, unfolding(crate::specs::LoadReading::load_read))]
 pub fn load<F: Folder>(alloc: Global, files: &mut F, name: &str) -> Result<Loaded, Stop<MetaFault>>
     ensures told { (file : List ℕ) → file_of (F.held files.old) name.now ≡ Some file → Answers result (load_read file) }
-    ensures device { result ≡ Err Stop.Device → IsTrue (misses (F.held files.old) name.now 0)
-        ⊎ Rose (F.faults files.old) (F.faults files.new) }
+    ensures folder { OnlyReads (result ≡ Err Stop.Device) (IsTrue (misses (F.held files.old) name.now 0))
+        (F.held files.old) (F.held files.new) (F.faults files.old) (F.faults files.new) }
     ensures absent { IsTrue (misses (F.held files.old) name.now 0) → (result ≡ Err Stop.Device) ⊎ (result ≡ Err Stop.Memory) }
-    ensures same_files { F.held files.new ≡ F.held files.old }
-    ensures counts { F.faults files.old ≤ F.faults files.new }
-    ensures hides_none { (result ≡ Err Stop.Device) ⊎ (F.faults files.new ≡ F.faults files.old) }
     ensures drew { IfOk result (λ loaded. F.drawn files.new ≤ F.drawn files.old + loaded_drawn loaded) }
     ensures drew_some { F.drawn files.new ≤ F.drawn files.old + 53 + 2 * (2 ^ 29 + 5) }
     ensures never_falls { F.drawn files.old ≤ F.drawn files.new }
@@ -90,11 +87,8 @@ fn draw_tail<F: Folder>(
 ) -> Result<Bytes, DevStop>
     ensures bytes { IfOk result (λ b. (file : List ℕ) → file_of (F.held files.old) name.now ≡ Some file → len ≡ length file
         → b ≡ last_bytes 53 file) }
-    ensures failed { result ≡ Err DevStop.Failed → IsTrue (misses (F.held files.old) name.now len)
-        ⊎ Rose (F.faults files.old) (F.faults files.new) }
-    ensures same_files { F.held files.new ≡ F.held files.old }
-    ensures counts { F.faults files.old ≤ F.faults files.new }
-    ensures hides_none { (result ≡ Err DevStop.Failed) ⊎ (F.faults files.new ≡ F.faults files.old) }
+    ensures folder { OnlyReads (result ≡ Err DevStop.Failed) (IsTrue (misses (F.held files.old) name.now len))
+        (F.held files.old) (F.held files.new) (F.faults files.old) (F.faults files.new) }
     ensures drew_some { F.drawn files.new ≤ F.drawn files.old + 53 }
     ensures never_falls { F.drawn files.old ≤ F.drawn files.new }
 {
@@ -125,11 +119,8 @@ fn load_names<F: Folder>(
 ) -> Result<Loaded, Stop<MetaFault>>
     ensures told { (file : List ℕ) → file_of (F.held files.old) name.now ≡ Some file → len ≡ length file
         → Answers result (names_read file (footer_start file) footer) }
-    ensures device { result ≡ Err Stop.Device → IsTrue (misses (F.held files.old) name.now len)
-        ⊎ Rose (F.faults files.old) (F.faults files.new) }
-    ensures same_files { F.held files.new ≡ F.held files.old }
-    ensures counts { F.faults files.old ≤ F.faults files.new }
-    ensures hides_none { (result ≡ Err Stop.Device) ⊎ (F.faults files.new ≡ F.faults files.old) }
+    ensures folder { OnlyReads (result ≡ Err Stop.Device) (IsTrue (misses (F.held files.old) name.now len))
+        (F.held files.old) (F.held files.new) (F.faults files.old) (F.faults files.new) }
     ensures drew { IfOk result (λ loaded. F.drawn files.new ≤ F.drawn files.old + block_drawn loaded.footer.meta + props_drawn loaded.names) }
     ensures drew_some { F.drawn files.new ≤ F.drawn files.old + 2 * (2 ^ 29 + 5) }
     ensures never_falls { F.drawn files.old ≤ F.drawn files.new }
@@ -183,11 +174,8 @@ fn draw_pairs<F: Folder>(
 ) -> Result<Props, Stop<MetaFault>>
     ensures told { (file : List ℕ) → file_of (F.held files.old) name.now ≡ Some file → end ≤ length file
         → Answers result (block_at meta.Frame (meta.Block handle) Names file end handle) }
-    ensures device { result ≡ Err Stop.Device → IsTrue (misses (F.held files.old) name.now end)
-        ⊎ Rose (F.faults files.old) (F.faults files.new) }
-    ensures same_files { F.held files.new ≡ F.held files.old }
-    ensures counts { F.faults files.old ≤ F.faults files.new }
-    ensures hides_none { (result ≡ Err Stop.Device) ⊎ (F.faults files.new ≡ F.faults files.old) }
+    ensures folder { OnlyReads (result ≡ Err Stop.Device) (IsTrue (misses (F.held files.old) name.now end))
+        (F.held files.old) (F.held files.new) (F.faults files.old) (F.faults files.new) }
     ensures drew_some { F.drawn files.new ≤ F.drawn files.old + block_drawn handle }
     ensures never_falls { F.drawn files.old ≤ F.drawn files.new }
 {
@@ -208,11 +196,8 @@ fn load_props<F: Folder>(
 ) -> Result<Option<Props>, Stop<MetaFault>>
     ensures told { (file : List ℕ) → file_of (F.held files.old) name.now ≡ Some file → end ≤ length file
         → Answers result (props_read file end names.now) }
-    ensures device { result ≡ Err Stop.Device → IsTrue (misses (F.held files.old) name.now end)
-        ⊎ Rose (F.faults files.old) (F.faults files.new) }
-    ensures same_files { F.held files.new ≡ F.held files.old }
-    ensures counts { F.faults files.old ≤ F.faults files.new }
-    ensures hides_none { (result ≡ Err Stop.Device) ⊎ (F.faults files.new ≡ F.faults files.old) }
+    ensures folder { OnlyReads (result ≡ Err Stop.Device) (IsTrue (misses (F.held files.old) name.now end))
+        (F.held files.old) (F.held files.new) (F.faults files.old) (F.faults files.new) }
     ensures drew_some { F.drawn files.new ≤ F.drawn files.old + props_drawn names.now }
     ensures never_falls { F.drawn files.old ≤ F.drawn files.new }
 {
@@ -238,11 +223,8 @@ fn draw_props<F: Folder>(
 ) -> Result<Option<Props>, Stop<MetaFault>>
     ensures told { (file : List ℕ) → file_of (F.held files.old) name.now ≡ Some file → end ≤ length file
         → Answers result (props_in file end (Some handle)) }
-    ensures device { result ≡ Err Stop.Device → IsTrue (misses (F.held files.old) name.now end)
-        ⊎ Rose (F.faults files.old) (F.faults files.new) }
-    ensures same_files { F.held files.new ≡ F.held files.old }
-    ensures counts { F.faults files.old ≤ F.faults files.new }
-    ensures hides_none { (result ≡ Err Stop.Device) ⊎ (F.faults files.new ≡ F.faults files.old) }
+    ensures folder { OnlyReads (result ≡ Err Stop.Device) (IsTrue (misses (F.held files.old) name.now end))
+        (F.held files.old) (F.held files.new) (F.faults files.old) (F.faults files.new) }
     ensures drew_some { F.drawn files.new ≤ F.drawn files.old + block_drawn handle }
     ensures never_falls { F.drawn files.old ≤ F.drawn files.new }
 {

@@ -5,7 +5,7 @@ ghost use Rattle.sst_block.specs.Block.{Row, IsHandle};
 ghost use Rattle.sst_block.specs.Reading.{Reads};
 ghost use Rattle.sst_block.specs.declared.row_form.RowForm.TheVariants.{Entries, Index};
 ghost use Rattle.sst_device.specs.Folder.{file_of, misses};
-ghost use Rattle.sst_device.specs.Faults.{Rose};
+ghost use Rattle.sst_device.specs.Outside.{OnlyReads};
 ghost use Rattle.sst_device.specs.Stops.{stop_as};
 ghost use Rattle.sst_meta.specs.Blocks.{rows_checked, then_open};
 ghost use Rattle.sst_bbt_spec.specs.Rows.{rows_of};
@@ -45,11 +45,8 @@ pub fn open_index<F: Folder>(
     ensures table { IfOk result IsOpenTable }
     ensures told { (file : List ℕ) → file_of (F.held files.old) name.now ≡ Some file → end ≤ length file
         → Opened result (index_read file end handle) }
-    ensures device { result ≡ Err Stop.Device → IsTrue (misses (F.held files.old) name.now end)
-        ⊎ Rose (F.faults files.old) (F.faults files.new) }
-    ensures same_files { F.held files.new ≡ F.held files.old }
-    ensures counts { F.faults files.old ≤ F.faults files.new }
-    ensures hides_none { (result ≡ Err Stop.Device) ⊎ (F.faults files.new ≡ F.faults files.old) }
+    ensures folder { OnlyReads (result ≡ Err Stop.Device) (IsTrue (misses (F.held files.old) name.now end))
+        (F.held files.old) (F.held files.new) (F.faults files.old) (F.faults files.new) }
 {
     match draw_framed(alloc, files, name, end, handle) {
         Err(stop) => Err(frame_stop(stop)),
@@ -70,11 +67,8 @@ fn open_blocks<F: Folder>(
     ensures table { IfOk result IsOpenTable }
     ensures told { (file : List ℕ) → file_of (F.held files.old) name.now ≡ Some file → end ≤ length file
         → Opened result (then_open (rows_checked (bbt.Block handle) (Index false false) index.now) (runs_read file end)) }
-    ensures device { result ≡ Err Stop.Device → IsTrue (misses (F.held files.old) name.now end)
-        ⊎ Rose (F.faults files.old) (F.faults files.new) }
-    ensures same_files { F.held files.new ≡ F.held files.old }
-    ensures counts { F.faults files.old ≤ F.faults files.new }
-    ensures hides_none { (result ≡ Err Stop.Device) ⊎ (F.faults files.new ≡ F.faults files.old) }
+    ensures folder { OnlyReads (result ≡ Err Stop.Device) (IsTrue (misses (F.held files.old) name.now end))
+        (F.held files.old) (F.held files.new) (F.faults files.old) (F.faults files.new) }
 {
     match count_rows(alloc, index, INDEX_FORM) {
         Err(Refused::Cause(fault)) => Err(Stop::Damage(BbtFault::Block(handle, fault))),
@@ -118,11 +112,8 @@ fn read_runs<F: Folder>(
     ensures told { (file : List ℕ) → file_of (F.held files.old) name.now ≡ Some file → end ≤ length file
         → (rows : List Row) → Reads (Index false false) index.now rows → length rows ≡ count
         → Opened result (runs_read file end rows) }
-    ensures device { result ≡ Err Stop.Device → IsTrue (misses (F.held files.old) name.now end)
-        ⊎ Rose (F.faults files.old) (F.faults files.new) }
-    ensures same_files { F.held files.new ≡ F.held files.old }
-    ensures counts { F.faults files.old ≤ F.faults files.new }
-    ensures hides_none { (result ≡ Err Stop.Device) ⊎ (F.faults files.new ≡ F.faults files.old) }
+    ensures folder { OnlyReads (result ≡ Err Stop.Device) (IsTrue (misses (F.held files.old) name.now end))
+        (F.held files.old) (F.held files.new) (F.faults files.old) (F.faults files.new) }
 {
     let room = KeyRoom::new(alloc)?;
     let mut rows = BlockIter::start(index, INDEX_FORM, room);
@@ -152,11 +143,8 @@ fn read_block<F: Folder>(
         → data_read file end (handle_read (handle_at value.now)) ≡ Ok (rows_of block.entries))) }
     ensures told { (file : List ℕ) → file_of (F.held files.old) name.now ≡ Some file → end ≤ length file
         → Stopped result (data_read file end (handle_read (handle_at value.now))) }
-    ensures device { result ≡ Err Stop.Device → IsTrue (misses (F.held files.old) name.now end)
-        ⊎ Rose (F.faults files.old) (F.faults files.new) }
-    ensures same_files { F.held files.new ≡ F.held files.old }
-    ensures counts { F.faults files.old ≤ F.faults files.new }
-    ensures hides_none { (result ≡ Err Stop.Device) ⊎ (F.faults files.new ≡ F.faults files.old) }
+    ensures folder { OnlyReads (result ≡ Err Stop.Device) (IsTrue (misses (F.held files.old) name.now end))
+        (F.held files.old) (F.held files.new) (F.faults files.old) (F.faults files.new) }
 {
     match take_handle(value) {
         None => unreachable!(),

@@ -9,17 +9,25 @@ returns-in-Err-clause-told g c = λ file told. rw (c.meta_stop.ensures) (stopped
 
 pub returns-in-Ok-clause-told : goal.returns-in-Ok-clause-told
 returns-in-Ok-clause-told g c = λ file told.
-    let known = ap (λ (h : Option Files). file_of h c.args.name.now) c.load.ensures.same_files ∙ told in
+    let known = ap (λ (h : Option Files). file_of h c.args.name.now) c.load.ensures.folder.same_files ∙ told in
     let loaded = c.in-Ok.ensures.told file told in
     let within : c.saturating_sub-end.result ≤ length file = omega (arith, c.saturating_sub-end.ensures, loaded_length file c.in-Ok.loaded loaded) in
     after_load c.open_index.result c.in-Ok.loaded file c.saturating_sub-end.result loaded c.saturating_sub-end.ensures (c.open_index.ensures.told file known within)
 
-pub returns-in-Ok-clause-device : goal.returns-in-Ok-clause-device
-returns-in-Ok-clause-device g c = λ failed.
-    whole_failed (g.F.Folder.held c.args.files.now) (g.F.Folder.held c.load.new.files) c.args.name.now c.saturating_sub-end.result (g.F.Folder.faults c.args.files.now)
-    (g.F.Folder.faults c.load.new.files) (g.F.Folder.faults c.open_index.new.files) c.load.ensures.same_files c.load.ensures.counts
-    (λ file told. omega (arith, c.saturating_sub-end.ensures, loaded_length file c.in-Ok.loaded (c.in-Ok.ensures.told file told)))
-    (c.open_index.ensures.device failed)
+pub returns-in-Ok-clause-folder : goal.returns-in-Ok-clause-folder
+returns-in-Ok-clause-folder g c =
+    let loads = c.in-Ok.ensures.folder in
+    let opens = c.open_index.ensures.folder in
+    record {
+      same_files = opens.same_files ∙ loads.same_files;
+      counts = omega (arith, loads.counts, opens.counts);
+      hides_none = grind (arith, loads.hides_none, opens.hides_none);
+      cause = λ failed.
+          whole_failed (g.F.Folder.held c.args.files.now) (g.F.Folder.held c.load.new.files) c.args.name.now c.saturating_sub-end.result (g.F.Folder.faults c.args.files.now)
+          (g.F.Folder.faults c.load.new.files) (g.F.Folder.faults c.open_index.new.files) loads.same_files loads.counts
+          (λ file told. omega (arith, c.saturating_sub-end.ensures, loaded_length file c.in-Ok.loaded (c.in-Ok.ensures.told file told)))
+          (opens.cause failed);
+    }
 
 pub returns-in-Ok-clause-stands : goal.returns-in-Ok-clause-stands
 returns-in-Ok-clause-stands g c = λ file entries told stands.

@@ -1,6 +1,7 @@
-use Rattle.std.proofs.Common.{List, None, Option, Ok, false, refl, sym, ap, ◌∙◌, arith}
+use Rattle.std.proofs.Common.{◌≡◌, List, None, Option, Ok, Err, false, refl, inl, inr, sym, ap, ◌∙◌, arith}
 use Rattle.std.proofs.lemmas.List.Elements.{All-nil}
 use Rattle.std.proofs.lemmas.Result.{err_from_is_err_and}
+use Rattle.sst_num.specs.declared.stops.Stop.TheVariants.{Device}
 use Rattle.sst_block.proofs.BlockRead.{read-sound}
 use Rattle.sst_block.specs.Block.{Row}
 use Rattle.sst_block.specs.declared.row_form.RowForm.TheVariants.{Index}
@@ -53,30 +54,40 @@ returns-in_err-place-clause-told g c = λ file told within rows reads many.
     rw (p.1) (read_stopped p.0 file c.args.end rows c.loop-row._row c.value.result.now (row_blocks_of (blocks_from 0 c.loop-row.ends.items c.loop-row.entries.items))
     (so.runs.read file told within rows (reads, many)) (c.value.ensures rows c.loop-row._row at) (rw (p.2) (c.in_err-place.ensures.told file known within)))
 
-pub returns-in_err-place-clause-device : goal.returns-in_err-place-clause-device
-returns-in_err-place-clause-device g c = λ failed.
+pub returns-in_err-place-clause-folder : goal.returns-in_err-place-clause-folder
+returns-in_err-place-clause-folder g c =
     let so = c.loop-row.invariant in
+    let reads = c.in_err-place.ensures.folder in
     let p = err_from_is_err_and c.from_residual-in_err-place.result c.from_residual-in_err-place.ensures.1 in
-    failed_later (g.F.Folder.held c.args.files.now) (g.F.Folder.held c.loop-row.files) c.args.name.now c.args.end (g.F.Folder.faults c.args.files.now)
-    (g.F.Folder.faults c.loop-row.files) (g.F.Folder.faults c.read_block.new.files) so.same_files (omega (arith, so.counts))
-    (c.in_err-place.ensures.device (passed_device c.from_residual-in_err-place.result p.0 c.in_err-place.field-0.0 p.1 p.2 failed))
-
-pub returns-in_err-place-clause-same_files : goal.returns-in_err-place-clause-same_files
-returns-in_err-place-clause-same_files g c = c.in_err-place.ensures.same_files ∙ c.loop-row.invariant.same_files
-
-pub returns-in_err-place-clause-counts : goal.returns-in_err-place-clause-counts
-returns-in_err-place-clause-counts g c = omega (arith, c.in_err-place.ensures.counts, c.loop-row.invariant.counts)
+    record {
+      same_files = reads.same_files ∙ so.same_files;
+      counts = omega (arith, reads.counts, so.counts);
+      hides_none = elim reads.hides_none [
+        | inl failed ↦ let one : c.in_err-place.field-0.0 ≡ Device = cc in inl (p.1 ∙ ap Err (p.2 ∙ one))
+        | inr same ↦ inr (same ∙ so.counts)
+      ];
+      cause = λ failed.
+          failed_later (g.F.Folder.held c.args.files.now) (g.F.Folder.held c.loop-row.files) c.args.name.now c.args.end (g.F.Folder.faults c.args.files.now)
+          (g.F.Folder.faults c.loop-row.files) (g.F.Folder.faults c.read_block.new.files) so.same_files (omega (arith, so.counts))
+          (reads.cause (passed_device c.from_residual-in_err-place.result p.0 c.in_err-place.field-0.0 p.1 p.2 failed));
+    }
 
 pub key-requires : goal.key-requires
 key-requires g c =
     let r = c.requires.read in
     (r.0, c.loop-row._row, stands c.args.index.now c.args.count c.loop-row.rows r.0 c.loop-row._row (r.1, r.2) c.loop-row-test.true (c.loop-row.invariant.runs.walks r.0 (r.1, r.2)))
 
-pub returns-in_err-add_end-clause-same_files : goal.returns-in_err-add_end-clause-same_files
-returns-in_err-add_end-clause-same_files g c = c.in_ok-place.ensures.same_files ∙ c.loop-row.invariant.same_files
-
-pub returns-in_err-add_end-clause-counts : goal.returns-in_err-add_end-clause-counts
-returns-in_err-add_end-clause-counts g c = omega (arith, c.in_ok-place.ensures.counts, c.loop-row.invariant.counts)
+pub returns-in_err-add_end-clause-folder : goal.returns-in_err-add_end-clause-folder
+returns-in_err-add_end-clause-folder g c =
+    let so = c.loop-row.invariant in
+    let reads = c.in_ok-place.ensures.folder in
+    let p = err_from_is_err_and c.from_residual-in_err-add_end.result c.from_residual-in_err-add_end.ensures.1 in
+    record {
+      same_files = reads.same_files ∙ so.same_files;
+      counts = omega (arith, reads.counts, so.counts);
+      hides_none = grind (arith, reads.hides_none, so.counts);
+      cause = λ failed. cc (p.1, p.2, failed);
+    }
 
 pub next-requires : goal.next-requires
 next-requires g c =
@@ -107,8 +118,8 @@ loop-row-preserved g c =
             (b.1 file known within)
             ∙ ap (λ (blocks : List IndexedBlock). Ok (row_blocks_of blocks)) (sym more);
       };
-      same_files = c.in_ok-place.ensures.same_files ∙ so.same_files;
-      counts = grind (arith, c.in_ok-place.ensures.hides_none, so.counts);
+      same_files = c.in_ok-place.ensures.folder.same_files ∙ so.same_files;
+      counts = grind (arith, c.in_ok-place.ensures.folder.hides_none, so.counts);
     }
 
 pub invariant_of-result : goal.invariant_of-result
@@ -122,11 +133,10 @@ pub returns-clause-told : goal.returns-clause-told
 returns-clause-told g c = λ file told within rows reads many.
     read_all file c.args.end rows c.loop-row._row _ (omega (arith, c.loop-row-test.false, many)) (c.loop-row.invariant.runs.read file told within rows (reads, many))
 
-pub returns-clause-same_files : goal.returns-clause-same_files
-returns-clause-same_files g c = c.loop-row.invariant.same_files
-
-pub returns-clause-counts : goal.returns-clause-counts
-returns-clause-counts g c = omega (arith, c.loop-row.invariant.counts)
+pub returns-clause-folder : goal.returns-clause-folder
+returns-clause-folder g c =
+    let so = c.loop-row.invariant in
+    record { same_files = so.same_files; counts = omega (arith, so.counts); hides_none = inr so.counts; cause = λ failed. cc }
 
 pub returns-clause-table : goal.returns-clause-table
 returns-clause-table g c =
