@@ -70,3 +70,15 @@ one-list (Index false true) bytes a b left right =
 one-list (Index true delta) bytes a b left right =
     let plain = λ (rows : List Row). block-as (Index true delta) Names bytes rows (λ a b. refl) (λ row is. (is.0, tt)) in
     plain-one Names bytes a b tt (plain a left) (plain b right)
+
+-- the rows of a block of any form are read, in some form
+pub block-reads : (form : RowForm) (bytes : List ℕ) (rows : List Row) → Block form bytes rows → (plain : RowForm) × Reads plain bytes rows
+block-reads Entries bytes rows block = (Entries, read-complete Entries bytes rows tt block)
+block-reads Names bytes rows block = (Names, read-complete Names bytes rows tt block)
+block-reads (Index false false) bytes rows block = (Index false false, read-complete (Index false false) bytes rows tt block)
+block-reads (Index false true) bytes rows block =
+    let plain = block-as (Index false true) (Index false false) bytes rows (λ a b. refl) (λ row is. (is.0, absurd is.1)) block in
+    (Index false false, read-complete (Index false false) bytes rows tt plain)
+block-reads (Index true delta) bytes rows block =
+    let plain = block-as (Index true delta) Names bytes rows (λ a b. refl) (λ row is. (is.0, tt)) block in
+    (Names, read-complete Names bytes rows tt plain)

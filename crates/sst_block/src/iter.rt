@@ -1,6 +1,5 @@
 ghost use Rattle.std.specs.Prelude.{◌≡◌, ℕ, ◌+◌, nat_lt, true, false, List, [], ◌∷◌, length, Option, None, Some, slice_get};
-ghost use Rattle.sst_block.specs.Block.{Row};
-ghost use Rattle.sst_block.specs.Reading.{Reads};
+ghost use Rattle.sst_block.specs.Block.{Row, Block};
 ghost use Rattle.sst_block.specs.Iter.{AreRows, Shows, Walks, place_of};
 
 use crate::check::rows_of;
@@ -30,10 +29,10 @@ pub struct BlockIter<'b> {
 impl<'b> BlockIter<'b> {
     /// A walk over the rows of a block, which stands nowhere.
     ///
-    /// The block is one that `check_block` accepts in this form. `room` is room for the keys.
+    /// The block stands for rows of this form, as one does that `check_block` accepts. `room` is room for the keys.
     pub fn start(block: &'b [u8], form: RowForm, room: KeyRoom) -> BlockIter<'b>
-        requires { (rows : List Row) × Reads form block.now rows }
-        ensures { (rows : List Row) → Reads form block.now rows → Walks result rows None }
+        requires { (rows : List Row) × Block form block.now rows }
+        ensures { (rows : List Row) → Block form block.now rows → Walks result rows None }
     {
         let _ = form;
         let rows = rows_of(block);

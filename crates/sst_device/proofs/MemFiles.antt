@@ -1,6 +1,6 @@
 -- What a look-up and a change in a list of files are to the folder that the list stands for.
 use Rattle.std.proofs.Common.{◌≡◌, ℕ, zero, suc, ◌+◌, ◌<◌, List, [], ◌∷◌, ◌++◌, true, false, cond, Option, None, Some, refl, sym, ap, ◌∙◌, arith, length, get_or, set, take, drop, map, position, ◌≤◌, IsTrue}
-use Rattle.std.proofs.lemmas.Bool.{le-ltb, lt-ltb}
+use Rattle.std.proofs.lemmas.Bool.{le-ltb, lt-ltb, ltb-false}
 use Rattle.std.specs.List.{position_from}
 use Rattle.std.specs.Ordering.{nat_cmp, eq_by_cmp}
 use Rattle.std.specs.Cmp.Lexicographic.{slice_cmp, nat_list_cmp_total, texts_ties}
@@ -13,7 +13,7 @@ use Rattle.std.proofs.lemmas.List.Quantifiers.{position-Some}
 use Rattle.std.proofs.lemmas.Iterator.Adapters.{position_from-zero}
 use Rattle.sst_device.specs.declared.memory.files.MemFile.{MemFile}
 use Rattle.sst_device.specs.MemFiles.{entry_of, files_of, is_named}
-use Rattle.sst_device.specs.Folder.{Files, written_over, edit_file, changed_file, ends_before}
+use Rattle.sst_device.specs.Folder.{Files, written_over, edit_file, changed_file, ends_before, misses}
 use Rattle.sst_device.proofs.Maps.{name_cmp_same, same_name, insert-insert, insert-swap, insert-same}
 
 -- the name of a file that is named so
@@ -142,6 +142,16 @@ ends-short found bytes end e short = ap (λ f. ends_before f end) e ∙ lt-ltb (
 
 pub ends-far : (found : Option (List ℕ)) (bytes : List ℕ) (end : ℕ) → found ≡ Some bytes → end ≤ length bytes → IsTrue (ends_before found end) → ⊥
 ends-far found bytes end e reaches missed = let found = ap (λ f. ends_before f end) e ∙ le-ltb (length bytes) end reaches in absurd cc
+
+-- what reaches as far as `more` reaches as far as any less
+ends-less : (found : Option (List ℕ)) (less more : ℕ) → less ≤ more → ends_before found more ≡ false → ends_before found less ≡ false
+ends-less None less more within e = absurd cc
+ends-less (Some bytes) less more within e = le-ltb (length bytes) less (let far = ltb-false (length bytes) more e in omega arith)
+
+-- where the first `more` bytes of a file are there, so are less
+pub misses-less : (held : Option Files) (name : List ℕ) (less more : ℕ) → less ≤ more → misses held name more ≡ false → misses held name less ≡ false
+misses-less None name less more within e = refl
+misses-less (Some files) name less more within e = ends-less (get files name) less more within e
 
 -- nothing written over bytes leaves them
 pub written_over-nil : (at : ℕ) (bytes : List ℕ) → written_over at [] bytes ≡ bytes

@@ -5,7 +5,7 @@ use Rattle.sst_device.specs.Folder.{Files}
 
 -- A call over a stream hides no fault. `Failed` says that the call answers that a device failed; the numbers are the count
 -- of faults before the call and after it.
--- Pinned by: next_line.hides_none
+-- Pinned by: put_all.faults, read_line.faults, fault_of_a_put_told_as_memory
 pub record CountsFaults (Failed : Type 0) (before now : ℕ) : Type 0 where
   pub counts : before ≤ now
   pub hides_none : Failed ⊎ (now ≡ before)
@@ -13,7 +13,7 @@ pub record CountsFaults (Failed : Type 0) (before now : ℕ) : Type 0 where
 
 -- A call only reads a folder, and hides no fault. `Missed` says that the folder tells that it lacks what the call needs: a
 -- miss is told as a failure too, and counts nothing.
--- Pinned by: load.folder, open.folder
+-- Pinned by: draw.folder, load.folder, open.folder, fault_of_a_draw_told_as_memory
 pub record OnlyReads (Failed Missed : Type 0) (held left : Option Files) (before now : ℕ) : Type 0 where
   pub same_files : left ≡ held
   pub counts : before ≤ now

@@ -1,7 +1,8 @@
 //! Bytes of a file, and the blocks that are stored in it, as new lists of bytes.
 ghost use Rattle.std.specs.Prelude.{◌≡◌, ℕ, ◌+◌, ◌^◌, ◌≤◌, ◌⊎◌, List, length, nat_lt, Some, Err, IsTrue, IsErr, IfSome, IfNone, IfOk, OnOk};
 ghost use Rattle.sst_device.specs.Folder.{file_of, misses};
-ghost use Rattle.sst_device.specs.Faults.{Rose, counted};
+ghost use Rattle.sst_device.specs.Faults.{counted};
+ghost use Rattle.sst_device.specs.Outside.{OnlyReads};
 ghost use Rattle.sst_device.specs.Drawn.{block_drawn};
 ghost use Rattle.sst_device.specs.Framed.{bytes_at};
 ghost use Rattle.sst_device.specs.FrameReading as reading;
@@ -48,14 +49,11 @@ pub fn draw<F: Folder>(
     ensures bytes { IfOk result (λ b. IfSome (file_of (F.held files.old) name.now) (λ file. b ≡ bytes_at file at len)) }
     ensures sized { IfOk result (λ b. length b ≡ len) }
     ensures miss { IsTrue (misses (F.held files.old) name.now (at + len)) → IsErr result }
-    ensures failed { result ≡ Err DevStop.Failed → IsTrue (misses (F.held files.old) name.now (at + len))
-        ⊎ Rose (F.faults files.old) (F.faults files.new) }
-    ensures same_files { F.held files.new ≡ F.held files.old }
+    ensures folder { OnlyReads (result ≡ Err DevStop.Failed) (IsTrue (misses (F.held files.old) name.now (at + len)))
+        (F.held files.old) (F.held files.new) (F.faults files.old) (F.faults files.new) }
     ensures drew { OnOk result (F.drawn files.new ≡ counted (F.drawn files.old) len) }
     ensures drew_some { F.drawn files.new ≤ F.drawn files.old + len }
     ensures never_falls { F.drawn files.old ≤ F.drawn files.new }
-    ensures counts { F.faults files.old ≤ F.faults files.new }
-    ensures hides_none { (result ≡ Err DevStop.Failed) ⊎ (F.faults files.new ≡ F.faults files.old) }
 {
     let mut bytes = Vec::new(alloc);
     if bytes.resize(len, 0).is_err() {
@@ -78,17 +76,13 @@ pub fn draw_framed<F: Folder>(
     handle: Handle,
 ) -> Result<Bytes, Stop<FrameFault>>
     ensures early { (fault : FrameFault) → reading.early_fault end handle ≡ Some fault → result ≡ Err (Stop.Damage fault) }
-    ensures exact { (file : List ℕ) → file_of (F.held files.old) name.now ≡ Some file → end ≤ length file
-        → Answers result (frame_read file end handle) }
+    ensures exact { (file : List ℕ) → file_of (F.held files.old) name.now ≡ Some file → Answers result (frame_read file end handle) }
     ensures sized { IfOk result (λ b. (length b ≡ handle.size) × (handle.size ≤ 2 ^ 29)) }
-    ensures device { result ≡ Err Stop.Device → IsTrue (misses (F.held files.old) name.now end)
-        ⊎ Rose (F.faults files.old) (F.faults files.new) }
-    ensures same_files { F.held files.new ≡ F.held files.old }
+    ensures folder { OnlyReads (result ≡ Err Stop.Device) (IsTrue (misses (F.held files.old) name.now end))
+        (F.held files.old) (F.held files.new) (F.faults files.old) (F.faults files.new) }
     ensures unread { (fault : FrameFault) → reading.early_fault end handle ≡ Some fault → files.new ≡ files.old }
     ensures drew_some { F.drawn files.new ≤ F.drawn files.old + block_drawn handle }
     ensures never_falls { F.drawn files.old ≤ F.drawn files.new }
-    ensures counts { F.faults files.old ≤ F.faults files.new }
-    ensures hides_none { (result ≡ Err Stop.Device) ⊎ (F.faults files.new ≡ F.faults files.old) }
 {
     match early_fault(end, handle) {
         Some(fault) => Err(Stop::Damage(fault)),

@@ -1,5 +1,5 @@
 //! Folders of named files, and how a call on an object outside stops.
-ghost use Rattle.std.specs.Prelude.{◌≡◌, ℕ, ◌+◌, ◌-◌, ◌^◌, ◌<◌, ◌≤◌, ◌⊎◌, ◌++◌, [], length, take, slice_range, Option, IsTrue, IsErr, IfOk, IfSome, OnOk, OnErr};
+ghost use Rattle.std.specs.Prelude.{◌≡◌, ℕ, ◌+◌, ◌-◌, ◌^◌, ◌<◌, ◌≤◌, ◌⊎◌, ◌++◌, [], length, take, slice_range, Option, IsTrue, IsFalse, IsErr, IfOk, IfSome, OnOk, OnErr};
 ghost use Rattle.sst_device.specs.Folder.{Files, file_of, put_file, edit_file, misses, written_over};
 ghost use Rattle.sst_device.specs.Faults.{Rose, counted};
 ghost use Rattle.sst_device.specs.declared.folder.DevStop.TheVariants as stop;
@@ -92,12 +92,13 @@ pub trait Folder {
         ensures hides_none { (result ≡ Err DevStop.Failed) ⊎ (faults self.new ≡ faults self.old) };
 
     /// Writes the piece over the bytes of the named file from `at` on, which are there. After an error a prefix
-    /// of the piece was written over.
+    /// of the piece was written over; no file grows, and at a miss none changes.
     fn patch(&mut self, name: &str, at: u64, piece: &[u8]) -> Result<(), DevStop>
         ensures patched { OnOk result (held self.new ≡ edit_file (held self.old) name.now (written_over at piece.now)) }
-        ensures err { OnErr result ((n : ℕ)
+        ensures err { OnErr result ((n : ℕ) × ((n ≡ 0) ⊎ IsFalse (misses (held self.old) name.now (at + n)))
             × (held self.new ≡ edit_file (held self.old) name.now (written_over at (take n piece.now)))) }
         ensures miss { IsTrue (misses (held self.old) name.now (at + length piece.now)) → IsErr result }
+        ensures missed { IsTrue (misses (held self.old) name.now (at + length piece.now)) → held self.new ≡ held self.old }
         ensures failed { result ≡ Err DevStop.Failed → IsTrue (misses (held self.old) name.now (at + length piece.now))
             ⊎ Rose (faults self.old) (faults self.new) }
         ensures same_drawn { drawn self.new ≡ drawn self.old }

@@ -50,8 +50,8 @@
 //! # Promises
 //!
 //! - After an Ok each call did exactly what it says to what is told. After an error an `add`, a `patch` and a
-//!   `put` did it with a prefix of the piece, and a `begin` did it or left the file. No call changes another
-//!   file, and a read changes none.
+//!   `put` did it with a prefix of the piece, and a `begin` did it or left the file. A `patch` makes no file longer.
+//!   No call changes another file, and a read changes none.
 //! - The objects in memory tell all that they hold, and fail at the calls that they are told to and at no other but
 //!   a miss and for want of memory ([`Planned`]). The real ones are proved against the same traits, but tell
 //!   nothing of content.

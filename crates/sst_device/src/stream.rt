@@ -2,6 +2,7 @@
 ghost use Rattle.std.specs.Prelude.{◌≡◌, ℕ, ◌<◌, ◌≤◌, ◌⊎◌, List, [], ◌++◌, length, take, Option, IfOk, IfSome, OnOk, OnErr};
 ghost use Rattle.std.specs.Io.KnownBytes.{prepend_known, append_known};
 ghost use Rattle.sst_device.specs.Faults.{Rose};
+ghost use Rattle.sst_device.specs.Outside.{CountsFaults};
 
 use crate::folder::{DevStop, Failed};
 
@@ -52,9 +53,7 @@ pub fn put_all<O: Sink>(out: &mut O, piece: &[u8]) -> Result<(), DevStop>
     ensures all { OnOk result (O.written out.new ≡ append_known (O.written out.old) piece.now) }
     ensures err { OnErr result ((n : ℕ)
         × (O.written out.new ≡ append_known (O.written out.old) (take n piece.now))) }
-    ensures failed { result ≡ Err DevStop.Failed → Rose (O.faults out.old) (O.faults out.new) }
-    ensures counts { O.faults out.old ≤ O.faults out.new }
-    ensures hides_none { (result ≡ Err DevStop.Failed) ⊎ (O.faults out.new ≡ O.faults out.old) }
+    ensures faults { CountsFaults (result ≡ Err DevStop.Failed) (O.faults out.old) (O.faults out.new) }
 {
     let mut done = 0;
     while done < piece.len() {

@@ -105,7 +105,8 @@ fn place_of(pairs: &[Pair], name: &[u8]) -> Result<usize, usize>
 
 /// The names and values of a block of names, of which there are `count`.
 fn pairs_of(alloc: Global, block: &[u8], count: u32) -> Result<Vec<Pair>, Memory>
-    requires { (rows : List Row) × Reads Names block.now rows × (length rows ≡ count) }
+    requires short { length block.now ≤ 2 ^ 29 }
+    requires read { (rows : List Row) × Reads Names block.now rows × (length rows ≡ count) }
     ensures { IfOk result (λ pairs. (rows : List Row) → Reads Names block.now rows → length rows ≡ count
         → rows ≡ rows_of pairs.items) }
 {

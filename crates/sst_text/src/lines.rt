@@ -3,7 +3,7 @@
 //! Each byte is taken once, searched for a line end once, and moved to the front at most once.
 ghost use Rattle.std.specs.Prelude.{◌⊎◌, ◌≡◌, ℕ, ◌+◌, ◌<◌, ◌≤◌, ◌^◌, List, ◌++◌, [], length, vec_len, take, drop, Option, None, Some, IfOk, OnErr};
 ghost use Rattle.std.specs.Io.KnownBytes.{prepend_known};
-ghost use Rattle.sst_device.specs.Faults.{Rose};
+ghost use Rattle.sst_device.specs.Outside.{CountsFaults};
 ghost use Rattle.sst_text.specs.Texts.{cut};
 ghost use Rattle.sst_text.specs.Lines.{IsRead, IsFound};
 ghost use Rattle.sst_text.specs.Taken.{past_line};
@@ -54,9 +54,7 @@ fn refill<I: Intake>(bytes: &mut Vec<u8>, input: &mut I) -> Result<usize, DevSto
         × (I.left input.old ≡ prepend_known piece (I.left input.new))) }
     ensures small { IfOk result (λ n. n ≤ 65536) }
     ensures end { result ≡ Ok 0 → IsRead (I.left input.new) }
-    ensures failed { result ≡ Err DevStop.Failed → Rose (I.faults input.old) (I.faults input.new) }
-    ensures counts { I.faults input.old ≤ I.faults input.new }
-    ensures hides_none { (result ≡ Err DevStop.Failed) ⊎ (I.faults input.new ≡ I.faults input.old) }
+    ensures faults { CountsFaults (result ≡ Err DevStop.Failed) (I.faults input.old) (I.faults input.new) }
 {
     let before = bytes.len();
     if bytes.resize(before + PIECE, 0).is_err() {
@@ -94,9 +92,7 @@ pub fn read_on<I: Intake>(bytes: &mut Vec<u8>, input: &mut I) -> Result<Found, D
         ≡ prepend_known bytes.new.items (I.left input.new)) }
     ensures found { IfOk result (λ found. IsFound found bytes.new.items (I.left input.new)) }
     ensures near { IfOk result (λ _. length (past_line bytes.new.items) ≤ 65536) }
-    ensures failed { result ≡ Err DevStop.Failed → Rose (I.faults input.old) (I.faults input.new) }
-    ensures counts { I.faults input.old ≤ I.faults input.new }
-    ensures hides_none { (result ≡ Err DevStop.Failed) ⊎ (I.faults input.new ≡ I.faults input.old) }
+    ensures faults { CountsFaults (result ≡ Err DevStop.Failed) (I.faults input.old) (I.faults input.new) }
 {
     while bytes.len() <= LINE_LIMIT {
         let searched = bytes.len();
@@ -147,9 +143,7 @@ impl LineReader {
         ensures told { IfOk result (λ _. prepend_known self.old (I.left input.old) ≡ prepend_known self.new (I.left input.new)) }
         ensures found { IfOk result (λ found. IsFound found self.new (I.left input.new)) }
         ensures near { length self.old ≤ 65536 → IfOk result (λ _. length (past_line self.new) ≤ 65536) }
-        ensures failed { result ≡ Err DevStop.Failed → Rose (I.faults input.old) (I.faults input.new) }
-        ensures counts { I.faults input.old ≤ I.faults input.new }
-        ensures hides_none { (result ≡ Err DevStop.Failed) ⊎ (I.faults input.new ≡ I.faults input.old) }
+        ensures faults { CountsFaults (result ≡ Err DevStop.Failed) (I.faults input.old) (I.faults input.new) }
     {
         let (_, unread) = self.bytes.as_slice().split_at(self.start);
         match first_place(unread, LINE_END) {

@@ -205,6 +205,7 @@ impl Folder for MemFolder {
         ensures patched { OnOk result (⟦<MemFolder as Folder>⟧.held self.new
             ≡ edit_file (⟦<MemFolder as Folder>⟧.held self.old) name.now (written_over at piece.now)) }
         ensures err { OnErr result ((n : ℕ)
+            × ((n ≡ 0) ⊎ IsFalse (misses (⟦<MemFolder as Folder>⟧.held self.old) name.now (at + n)))
             × (⟦<MemFolder as Folder>⟧.held self.new
             ≡ edit_file (⟦<MemFolder as Folder>⟧.held self.old) name.now (written_over at (take n piece.now)))) }
         ensures cut_short { OnErr result (IsFalse (misses (⟦<MemFolder as Folder>⟧.held self.old) name.now (at + length piece.now))

@@ -25,7 +25,7 @@ loop-bytes-preserved g c =
     record {
       none = none_on old piece c.refill.new.bytes.items c.loop-bytes.invariant.none none more.2;
       told = told_on (g.I.Intake.left c.args.input.now) (g.I.Intake.left c.loop-bytes.input) (g.I.Intake.left c.refill.new.input) c.args.bytes.now.items old piece c.refill.new.bytes.items c.loop-bytes.invariant.told more.3 more.2;
-      counts = grind (arith, c.refill.ensures.hides_none, c.loop-bytes.invariant.counts);
+      counts = grind (arith, c.refill.ensures.faults.hides_none, c.loop-bytes.invariant.counts);
     }
 
 pub returns-then-taken-eq0-clause-near : goal.returns-then-taken-eq0-clause-near

@@ -10,6 +10,6 @@ returns-in-Ok-clause-added g c =
       added.0,
       λ file told within.
           led_rows file c.args.end c.args.value.now c.in-Some.handle c.in-Some.field-0-1 c.in-Ok.block c.as_slice.result.now (rows_of added.0.entries)
-          c.in-Some.ensures.exact (c.in-Ok.ensures.exact file told within) c.as_slice.ensures added.1,
+          c.in-Some.ensures.exact (c.in-Ok.ensures.exact file told) c.as_slice.ensures added.1,
     ))
     c.read_rows.ensures.added

@@ -1,8 +1,10 @@
-use Rattle.std.proofs.Common.{◌≡◌, List, None, Option, Ok, Err, refl, inl, inr, sym, ap, ◌∙◌, arith}
+use Rattle.std.proofs.Common.{◌≡◌, List, None, Option, Ok, Err, false, refl, inl, inr, sym, ap, ◌∙◌, arith}
 use Rattle.std.proofs.lemmas.List.Elements.{All-nil}
 use Rattle.std.proofs.lemmas.Result.{err_from_is_err_and}
 use Rattle.sst_num.specs.declared.stops.Stop.TheVariants.{Device}
+use Rattle.sst_block.proofs.BlockRead.{read-sound}
 use Rattle.sst_block.specs.Block.{Row}
+use Rattle.sst_block.specs.declared.row_form.RowForm.TheVariants.{Index}
 use Rattle.sst_device.specs.Folder.{Files, file_of}
 use Rattle.sst_bbt_spec.specs.Way.{IndexedBlock}
 use Rattle.sst_bbt_read.specs.TableBlocks.{AreEntries, row_blocks_of, blocks_from}
@@ -12,12 +14,17 @@ use Rattle.sst_bbt_read.proofs.TableGrown.{ends_more, blocks_more, are_more, key
 use Rattle.sst_bbt_read.proofs.bbt_reader.opening.read_runs.Goals as goal
 
 pub first-requires : goal.first-requires
-first-requires g c = let r = c.requires.read in (r.0, None, c.start-rows.ensures r.0 r.1)
+first-requires g c =
+    let r = c.requires.read in
+    (r.0, None, c.start-rows.ensures r.0 (read-sound (Index false false) c.args.index.now r.0 tt c.requires.short r.1))
+
+pub start-rows-requires : goal.start-rows-requires
+start-rows-requires g c = let r = c.requires.read in (r.0, read-sound (Index false false) c.args.index.now r.0 tt c.requires.short r.1)
 
 pub loop-row-init : goal.loop-row-init
 loop-row-init g c = record {
   runs = rw (c.new-ends.ensures.items, c.new-entries.ensures.items) (record {
-    walks = λ rows is. c.first.ensures.moves rows None (c.start-rows.ensures rows is.0);
+    walks = λ rows is. c.first.ensures.moves rows None (c.start-rows.ensures rows (read-sound (Index false false) c.args.index.now rows tt c.requires.short is.0));
     keys = λ rows is. refl;
     are = refl;
     blocks = All-nil (λ (b : IndexedBlock). AreEntries b.entries);

@@ -4,7 +4,7 @@ use Rattle.sst_meta.proofs.PairsRead.{counted, all_read, all_stand, all_ordered,
 use Rattle.sst_meta.proofs.props.Props.read.Goals as goal
 
 pub pairs_of-requires : goal.pairs_of-requires
-pairs_of-requires c = counted c.args.block.now c.in-Ok.count c.in-Ok.ensures.exact
+pairs_of-requires c = record { short = c.requires; read = counted c.args.block.now c.in-Ok.count c.in-Ok.ensures.exact }
 
 pub invariant_of-result : goal.invariant_of-result
 invariant_of-result c =
