@@ -1,0 +1,96 @@
+//! Each use called once: a table of two entries is written into memory, opened, asked and walked.
+ghost use Rattle.std.specs.Prelude.{◌≡◌, IfOk};
+
+use crate::{all_entries, look_up, write_table};
+use sst_bbt_write::BbtOptions;
+use sst_device::MemFolder;
+use sst_key::{Entry, Kind, WriteFault};
+use sst_num::{Bytes, Memory, Refused};
+use std::alloc::Global;
+use std::test::Fail;
+
+/// The name of the file.
+const NAME: &str = "table";
+
+/// The size of data blocks that RocksDB takes where no other is chosen.
+const OPTIONS: BbtOptions = BbtOptions { block_size: 4096 };
+
+/// The key `a`, which has the value `x` since 2.
+fn put_of_a(alloc: Global) -> Result<Entry, Memory>
+    ensures { IfOk result (λ entry. entry.seq ≡ 2) }
+{
+    Ok(Entry {
+        user: Bytes::from_slice(alloc, b"a")?,
+        seq: 2,
+        kind: Kind::Value,
+        value: Bytes::from_slice(alloc, b"x")?,
+    })
+}
+
+/// The key `b`, which was deleted at 1.
+fn deletion_of_b(alloc: Global) -> Result<Entry, Memory>
+    ensures { IfOk result (λ entry. entry.seq ≡ 1) }
+{
+    Ok(Entry {
+        user: Bytes::from_slice(alloc, b"b")?,
+        seq: 1,
+        kind: Kind::Deletion,
+        value: Bytes::new(alloc),
+    })
+}
+
+/// A folder with the table of the two entries.
+fn folder(alloc: Global) -> Result<MemFolder, Fail> {
+    let entries = [put_of_a(alloc)?, deletion_of_b(alloc)?];
+    let mut folder = MemFolder::new(alloc, &[])?;
+    match write_table(alloc, OPTIONS, &entries) {
+        Ok(file) => folder.put_file(NAME, &file)?,
+        Err(_) => {}
+    }
+    Ok(folder)
+}
+
+#[test]
+fn a_table_is_asked_at_snapshots(rt: HostRuntime) -> Result<(), Fail> {
+    let mut folder = folder(rt.alloc())?;
+    for (user, seq, kind) in [
+        (&b"a"[..], 5, Some(Kind::Value)),
+        (&b"a"[..], 2, Some(Kind::Value)),
+        (&b"a"[..], 1, None),
+        (&b"b"[..], 1, Some(Kind::Deletion)),
+        (&b"c"[..], 5, None),
+    ] {
+        match look_up(rt.alloc(), &mut folder, NAME, user, seq) {
+            Ok(found) => assert_eq!(rt; found.map(|entry| entry.kind), kind),
+            Err(_) => assert!(rt; false),
+        }
+    }
+    Ok(())
+}
+
+#[test]
+fn a_table_is_walked(rt: HostRuntime) -> Result<(), Fail> {
+    let mut folder = folder(rt.alloc())?;
+    match all_entries(rt.alloc(), &mut folder, NAME) {
+        Ok(entries) => match entries.as_slice() {
+            [a, b] => {
+                assert_eq!(rt; a.user.as_slice(), b"a".as_slice());
+                assert_eq!(rt; a.value.as_slice(), b"x".as_slice());
+                assert_eq!(rt; b.user.as_slice(), b"b".as_slice());
+            }
+            _ => assert!(rt; false),
+        },
+        Err(_) => assert!(rt; false),
+    }
+    Ok(())
+}
+
+#[test]
+fn entries_out_of_order_are_refused(rt: HostRuntime) -> Result<(), Fail> {
+    let entries = [deletion_of_b(rt.alloc())?, put_of_a(rt.alloc())?];
+    match write_table(rt.alloc(), OPTIONS, &entries) {
+        Err(Refused::Cause(fault)) => assert_eq!(rt; fault, WriteFault::NotIncreasing),
+        _ => assert!(rt; false),
+    }
+    Ok(())
+}
