@@ -7,10 +7,7 @@ use Rattle.sst_key.specs.declared.calls.Call.{Call}
 use Rattle.sst_key.proofs.KeyParts.{take-front}
 use Rattle.sst_cli.specs.Replies.{answer_line, way_from, way_text, Printing}
 use Rattle.sst_bbt_spec.specs.Way.{IndexedBlock, joined, way_answer}
-
-append_known-nil : (known : Option (List ℕ)) → known ≡ append_known known []
-append_known-nil None = refl
-append_known-nil (Some bytes) = ap Some (sym (append-nil bytes))
+use Rattle.sst_cli.proofs.Carried.{append_known-nil}
 
 append_known-append : (known : Option (List ℕ)) (a b : List ℕ) → append_known (append_known known a) b ≡ append_known known (a ++ b)
 append_known-append None a b = refl

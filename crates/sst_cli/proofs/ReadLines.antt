@@ -7,6 +7,7 @@ use Rattle.sst_cli.specs.declared.input.refusal.Refusal.{Refusal}
 use Rattle.sst_cli.specs.declared.input.refusal.Reason.TheVariants as why
 use Rattle.sst_cli.specs.declared.input.entries.InputStop.{InputStop}
 use Rattle.sst_cli.specs.declared.input.entries.InputStop.TheVariants as stop
+use Rattle.sst_bbt_write.specs.declared.bbt_options.BbtOptions.{BbtOptions}
 use Rattle.sst_bbt_write.specs.declared.bbt_writer.BbtWriter.{BbtWriter}
 use Rattle.sst_bbt_write.specs.After.{After}
 use Rattle.sst_bbt_write.specs.Reasons.{reason}
@@ -25,17 +26,17 @@ unfolding read_line
 read_line-short entries line short = rw (le-ltb 40000000 (length line) short) refl
 
 -- an entry that the writer took
-pub entry_added : (entries : List Entry) (bytes line : List ℕ) (e seen : Entry) (writer : BbtWriter) (old new piece : List ℕ)
+pub entry_added : (options : BbtOptions) (entries : List Entry) (bytes line : List ℕ) (e seen : Entry) (writer : BbtWriter) (old new piece : List ℕ)
     → read_line entries line ≡ by_entry entries (Some e) → seen ≡ e → reason entries seen ≡ None
-    → new ≡ old ++ piece → After writer (entries ++ seen ∷ []) (bytes ++ piece) → HasAdded entries bytes line writer old new
-entry_added entries bytes line e seen writer old new piece reads same good put after =
+    → new ≡ old ++ piece → After writer options (entries ++ seen ∷ []) (bytes ++ piece) → HasAdded options entries bytes line writer old new
+entry_added options entries bytes line e seen writer old new piece reads same good put after =
     let good_e : reason entries e ≡ None = ap (reason entries) (sym same) ∙ good in
     record {
       entry = e;
       reads = reads ∙ ap (by_reason e) good_e;
       piece = piece;
       put = put;
-      after = subst (λ (x : Entry). After writer (entries ++ x ∷ []) (bytes ++ piece)) same after;
+      after = subst (λ (x : Entry). After writer options (entries ++ x ∷ []) (bytes ++ piece)) same after;
     }
 
 -- an entry that the writer refused

@@ -3,11 +3,11 @@ use Rattle.std.specs.Prelude.{◌≡◌, ℕ, List, [], length, Option, Some, Ok
 use Rattle.sst_key.specs.declared.entries.Entry.{Entry}
 use Rattle.sst_device.specs.Folder.{Files}
 use Rattle.sst_cli.specs.Reading.{read_input}
-use Rattle.sst_cli.specs.Run.{HoldsWritten}
+use Rattle.sst_cli.specs.WriteCommand.{HoldsWritten}
 use Rattle.sst_cli.specs.Words.{WriteLine}
 
 -- the file of the input's entries stands there and the input is read to its end
--- Pinned by: run.written
+-- Pinned by: what_a_write_comes_to.written
 pub record HasProduced (count : ℕ) (line : WriteLine) (old new : Option Files) (input left : Option (List ℕ)) : Type 0 where
   pub entries : List Entry
   pub counted : count ≡ length entries

@@ -32,18 +32,18 @@ abbrev pub answers_text : List Entry → List Call → List ℕ
 answers_text entries calls = answers_from entries None calls
 
 -- the text of the answers by the way of the blocks, from a position on
--- Pinned by: run.answered, entries_behind_separators
+-- Pinned by: what_calls_come_to.answered, entries_behind_separators
 unfoldable pub way_from : List IndexedBlock → Option ℕ → List Call → List ℕ
 way_from blocks position calls = lines_of (joined blocks) calls (way_replies_from blocks position calls)
 
 -- the text of the answers of a block-based table with these blocks
--- Pinned by: run.answered, entries_behind_separators
+-- Pinned by: what_calls_come_to.answered, entries_behind_separators
 abbrev pub way_text : List IndexedBlock → List Call → List ℕ
 way_text blocks calls = way_from blocks None calls
 
 -- Part of a text was printed: what was put so far, what waits in `text` and the answers to the calls from here on make
 -- up the whole.
--- Pinned by: run.answered
+-- Pinned by: what_calls_come_to.answered
 pub record Printing (blocks : List IndexedBlock) (calls : List Call) (before now : Option (List ℕ)) (text : List ℕ) (position : Option ℕ) (rest : List Call) : Type 0 where
   pub put : List ℕ
   pub printed : now ≡ append_known before put

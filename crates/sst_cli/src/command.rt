@@ -1,8 +1,10 @@
-//! The words of a command line. They stand by their place: an OUT of any spelling is a name, and options come after it.
+//! The command that the words are. They stand by their place: an OUT of any spelling is a name, and options come after it.
 ghost use Rattle.std.specs.Prelude.{◌≡◌, ◌∷◌, [], map};
 ghost use Rattle.std.specs.Option.{option_map};
 ghost use Rattle.std.specs.String.{string_bytes};
 ghost use Rattle.sst_cli.specs.Words as line;
+ghost use Rattle.sst_cli.specs.Command.{seen, command_by};
+ghost use Rattle.sst_cli.specs.Command as commands;
 
 use sst_bbt_write::BbtOptions;
 use sst_text::seq_field;
@@ -28,8 +30,40 @@ pub struct WriteLine<'a> {
     pub options: BbtOptions,
 }
 
+/// A command.
+#[derive(Clone, Copy)]
+pub enum Command<'a> {
+    /// Writes a file of the entries of the input.
+    Write(WriteLine<'a>),
+    /// Answers the calls of the input from the named file.
+    Calls(&'a str),
+}
+
+/// The command that the words are, by the first of them, if they are one.
+pub fn command_of(words: &[String]) -> Option<Command<'_>>
+    ensures { option_map seen result ≡ commands.command_of (map string_bytes words.now) }
+{
+    match words {
+        [] => None,
+        [first, ..] => command_by(first.as_str(), words),
+    }
+}
+
+/// The command that words with this first one are, if they are one.
+fn command_by<'a>(first: &str, words: &'a [String]) -> Option<Command<'a>>
+    ensures { option_map seen result ≡ command_by first.now (map string_bytes words.entry.now) }
+{
+    if first == "write" {
+        return Some(Command::Write(write_line(words)?));
+    }
+    if first == "calls" {
+        return Some(Command::Calls(calls_name(words)?));
+    }
+    None
+}
+
 /// The `write` that the words are, if they are one.
-pub fn write_line(words: &[String]) -> Option<WriteLine<'_>>
+fn write_line(words: &[String]) -> Option<WriteLine<'_>>
     ensures { option_map (λ l. record { name = l.name.now; options = l.options }) result ≡ line.write_line (map string_bytes words.now) }
 {
     match words {
@@ -94,7 +128,7 @@ fn block_number(word: &[u8]) -> Option<u32>
 }
 
 /// The name of the file that a `calls` reads, where the words are such a line.
-pub fn calls_name(words: &[String]) -> Option<&str>
+fn calls_name(words: &[String]) -> Option<&str>
     ensures { option_map (λ name. name.now) result ≡ line.calls_name (map string_bytes words.now) }
 {
     match words {

@@ -4,7 +4,7 @@
 //! # The way of a command
 //!
 //! ```text
-//!               write_line
+//!               command_of
 //! words ------------------------> OUT, options ------------------ begin, add -------------> file
 //!                                                                                            ^
 //!               LineReader          entry_of_line          BbtWriter: add, finish            |
@@ -15,7 +15,7 @@
 //!                           v                        v                               v
 //! output <----------- input N REASON, or usage where the words are no command      wrote N
 //!
-//!               calls_name
+//!               command_of
 //! words ------------------------> name of FILE                file
 //!                                                               |  load, draw_framed, check_block
 //!               LineReader          call_of_line                v
@@ -77,47 +77,43 @@
 //!
 //! # Promises
 //!
-//! - For each list that fits (`Fits`, specs/Written.antt), given as the lines of its entries (`lines_text`,
-//!   specs/EntryText.antt), OUT holds what is `Written` for it, `wrote N` is printed, and the input is read
-//!   to its end; but for a fault of the outside and for want of memory. The same holds of each text that says
-//!   a list (`read_input`, specs/Reading.antt).
+//! What a run comes to is said in one form for every command (`Behaviour`, specs/Behaviour.antt): what the command finds, what
+//! it answers and prints for that, what it leaves, and what it may change. [`run`] ends as the behaviour of the command
+//! that its words are, or is stopped by a counted fault or out of memory, with a prefix of the text printed or nothing.
+//!
+//! - For each list that fits (`Fits`, sst_bbt_write), given as the lines of its entries (`lines_text`, sst_text), OUT holds what
+//!   is `Written` for it, `wrote N` is printed, and the input is read to its end; but for a fault of the outside and for out
+//!   of memory. The same holds of each text that says a list, and of each other text the first refusal is printed, a line and
+//!   a reason ([`what_a_write_comes_to`]).
 //! - On each file that stands for a list (`BlockBased`, sst_bbt_spec), each list of calls, given as its lines
-//!   (`calls_text`, specs/CallText.antt), is answered as the list answers (`answer_of`, sst_key); but for the same. On a
-//!   file that opens, but whose separators don't separate, Get, Seek and SeekForPrev go by the index
-//!   (`way_answer`, sst_bbt_spec). Where the separators separate, the two ways are one (`the_way_is_the_lists` and
-//!   `a_file_that_stands_is_separated`, sst_bbt_spec).
-//! - On each other file the first thing that is wrong is printed (`blocks_read`, specs/Opening.antt), and the file shows it
-//!   (`Shows`, specs/Shows.antt).
-//! - For each other input the first refusal is printed, a line and a reason; of `calls` whatever the file is.
-//! - What is `Written` for a list stands for it ([`written_file_stands_for_its_list`]). An entry's line reads
-//!   back as the entry ([`an_entry_line_reads_back`]), a list's text as the list ([`a_list_reads_back`]), and the same of
-//!   calls ([`a_call_line_reads_back`], [`a_call_list_reads_back`]). What a text says is within the limits that
-//!   these ask for ([`what_a_text_says_fits`]).
-//! - The data blocks of a list end where they are full, and no sooner; no other blocks of its entries do
-//!   ([`a_list_is_cut_where_blocks_are_full`]).
-//! - A file opens to data blocks exactly where it reads as them ([`a_file_opens_to_its_blocks`]), and, if it is of bytes,
-//!   shows a fault exactly where it opens to none ([`a_file_that_opens_shows_no_fault`]). It stands for one list at most
-//!   (`a_file_stands_for_one_list`, sst_bbt_spec).
+//!   (`calls_text`, sst_text), is answered as the list answers (`answer_of`, sst_key); but for the same. On a file that opens, but
+//!   whose separators don't separate, Get, Seek and SeekForPrev go by the index; on each other file the first thing that is
+//!   wrong is printed, and the file shows it; of an input that is refused the first refusal, and then the folder isn't
+//!   touched ([`what_calls_come_to`], and `spares_folder` of [`run`]).
+//! - Words are a command by the first of them ([`a_command_is_by_its_words`]). Of others `usage` is printed, and nothing else is
+//!   touched ([`what_a_run_comes_to`]).
+//! - Where the folder and the input are told, what a command may find there has one outcome
+//!   ([`a_told_world_has_one_outcome`]): so each status comes exactly where it is said to come, but for faults.
+//! - A list's text reads back as the list ([`a_list_reads_back`]), and the same of calls ([`a_call_list_reads_back`]). What a
+//!   text says is within the limits that these ask for ([`what_a_text_says_fits`]). A file that is written reads back
+//!   ([`a_written_file_reads_back`]).
 //! - Device is answered only with a counted fault, or where the folder tells that FILE isn't there. No file but OUT
 //!   changes.
 //!
 //! # For now
 //!
-//! A part whose crate comes later stands here, and moves unchanged: the writer and the reader. The whole file is made in
-//! memory and then added to OUT; a reader keeps all entries in memory.
+//! The whole file is made in memory and then added to OUT; a reader keeps all entries in memory.
 //!
 //! # Where to read
 //!
-//! The files by what they are for, in reading order:
+//! The files by what they are for, in reading order; no file uses one that uses it:
 //!
 //! ```text
-//! the program    program (`run`), words; write_command, produce; call_command, answering; printing
-//! the input      lines, cuts, fields; entry_line, reading; call_line, call_list, call_reading; refusal
-//! the output     reply_line, fault_text
-//! the writer     bbt_options, bbt_writer, properties, table_parts
-//! the reader     bbt_fault, bbt_reader, bbt_reader/opening, block_rows; bbt_reader/calls, block_search, separators,
-//!                list_search
-//! laws           laws, opening_laws
+//! the program    status, command, program (`run`)
+//! commands/      a file each: write (produce makes its file), calls
+//! input/         entries, calls, call_list; refusal
+//! output/        printing; answers, damage
+//! laws           laws of texts and files; run_laws: what a run comes to, for each command
 //! ```
 #![tactic(auto)]
 
@@ -135,6 +131,7 @@ mod output;
 mod program;
 #[cfg(test)]
 mod program_tests;
+mod run_laws;
 mod status;
 #[cfg(test)]
 mod text_tests;
@@ -143,4 +140,8 @@ pub use laws::{
     a_call_list_reads_back, a_list_reads_back, a_written_file_reads_back, what_a_text_says_fits,
 };
 pub use program::run;
+pub use run_laws::{
+    a_command_is_by_its_words, a_told_world_has_one_outcome, what_a_run_comes_to,
+    what_a_write_comes_to, what_calls_come_to,
+};
 pub use status::Status;

@@ -1,30 +1,24 @@
 //! The program: from words to a status.
-ghost use Rattle.std.specs.Prelude.{◌≡◌, ◌≢◌, ◌⊎◌, ℕ, ◌≤◌, List, [], length, map, Option, Some, None, Ok, Err, IsTrue};
+ghost use Rattle.std.specs.Prelude.{◌≡◌, ◌⊎◌, ℕ, ◌≤◌, List, length, map, Option, Some};
+ghost use Rattle.std.specs.Option.{option_map};
 ghost use Rattle.std.specs.String.{string_bytes};
-ghost use Rattle.std.specs.Io.KnownBytes.{append_known};
-ghost use Rattle.hex.specs.Hex.{IsBytes};
 ghost use Rattle.sst_key.specs.declared.calls.Call.{Call};
 ghost use Rattle.sst_key.specs.declared.entries.Entry.{Entry};
-ghost use Rattle.sst_bbt_spec.specs.BlockBased.{Opens, BlockBased};
+ghost use Rattle.sst_device.specs.Folder.{Files, file_of};
 ghost use Rattle.sst_text.specs.CallText.{calls_text, AreInLimits, AreOfBytes};
-ghost use Rattle.sst_cli.specs.CallsRun.{Answered, AnsweredByWay, IsDamaged, IsLacking, IsRefusedInput, IsTextFor};
 ghost use Rattle.sst_text.specs.EntryText.{lines_text, AreBytes};
-ghost use Rattle.sst_device.specs.Faults.{Rose};
-ghost use Rattle.sst_device.specs.Folder.{file_of, misses, put_file};
-ghost use Rattle.sst_bbt_read.specs.Opening.{blocks_read};
+ghost use Rattle.sst_bbt_spec.specs.BlockBased.{BlockBased};
+ghost use Rattle.sst_bbt_write.specs.Written.{Fits};
+ghost use Rattle.sst_cli.specs.Behaviour.{CallsFor, Carries, Ends, HasFailed, IsFault, MayPrint, tells, world};
+ghost use Rattle.sst_cli.specs.CallsCommand.{Answered};
+ghost use Rattle.sst_cli.specs.Command.{behaviour, command_of, seen};
+ghost use Rattle.sst_cli.specs.NoCommand.{no_command};
 ghost use Rattle.sst_cli.specs.Printed.{Prints};
-ghost use Rattle.sst_cli.specs.Reading as reading;
-ghost use Rattle.sst_cli.specs.Refusals.{refusal_text};
-ghost use Rattle.sst_cli.specs.Run.{IsFault, ChangesOnly, Wrote, usage_text};
-ghost use Rattle.sst_text.specs.Taken.{IsTakenTo};
-ghost use Rattle.sst_bbt_spec.specs.Way.{IndexedBlock};
 ghost use Rattle.sst_cli.specs.Words as line;
 ghost use Rattle.sst_cli.specs.Words.{WriteLine};
-ghost use Rattle.sst_bbt_write.specs.Written.{Fits};
-ghost use Rattle.sst_bbt_read.specs.declared.bbt_fault.BbtFault.{BbtFault};
-ghost use Rattle.sst_cli.specs.declared.input.refusal.Refusal.{Refusal};
+ghost use Rattle.sst_cli.specs.WriteCommand.{Wrote};
 
-use crate::command::{calls_name, write_line};
+use crate::command::{Command, command_of};
 use crate::commands::calls::calls;
 use crate::commands::write::write;
 use crate::output::printing::print;
@@ -79,35 +73,11 @@ pub fn run<F: Folder, I: Intake, O: Sink>(
     input: &mut I,
     out: &mut O,
 ) -> Status
-    // Words that are no command: their whole text is printed, and nothing else is touched.
-    ensures usage { line.out_name (map string_bytes words.now) ≡ None → line.calls_name (map string_bytes words.now) ≡ None
-        → IsFault result ⊎ ((result ≡ Status.Usage)
-        × (O.written out.new ≡ append_known (O.written out.old) usage_text)) }
-    ensures untouched { line.out_name (map string_bytes words.now) ≡ None
-        → line.calls_name (map string_bytes words.now) ≡ None
-        → (files.new ≡ files.old) × (input.new ≡ input.old) }
-
     // The write clause of the headline: each list that fits is written, from the text of its entries.
     ensures headline_write { (write : WriteLine) (entries : List Entry) → line.write_line (map string_bytes words.now) ≡ Some write
         → Fits entries → AreBytes entries → I.left input.old ≡ Some (lines_text entries)
         → IsFault result ⊎ Wrote result write entries (F.held files.old) (F.held files.new) (I.left input.new)
         (O.written out.old) (O.written out.new) }
-
-    // The same for each text that says a list, in whatever spelling.
-    ensures written { (write : WriteLine) (text : List ℕ) (entries : List Entry)
-        → line.write_line (map string_bytes words.now) ≡ Some write
-        → I.left input.old ≡ Some text → reading.read_input text ≡ Ok entries
-        → IsFault result ⊎ Wrote result write entries (F.held files.old) (F.held files.new) (I.left input.new)
-        (O.written out.old) (O.written out.new) }
-
-    // An input of a `write` that is refused: its whole text is printed, and at most a piece past the refused line is taken.
-    ensures refused { (name text : List ℕ) (refusal : Refusal) → line.out_name (map string_bytes words.now) ≡ Some name
-        → I.left input.old ≡ Some text → reading.read_input text ≡ Err refusal
-        → IsFault result ⊎ ((result ≡ Status.Input)
-        × (O.written out.new ≡ append_known (O.written out.old) (refusal_text refusal))) }
-    ensures near { (name text : List ℕ) (refusal : Refusal) → line.out_name (map string_bytes words.now) ≡ Some name
-        → I.left input.old ≡ Some text → reading.read_input text ≡ Err refusal → result ≡ Status.Input
-        → IsTakenTo refusal.line text (I.left input.new) }
 
     // The calls clause of the headline: on each file that stands for a list, each list of calls is answered as the list
     // answers, from the text of the calls.
@@ -118,93 +88,64 @@ pub fn run<F: Folder, I: Intake, O: Sink>(
         → IsFault result ⊎ Answered result entries calls (F.held files.old) (F.held files.new) (I.left input.new)
         (O.written out.old) (O.written out.new) }
 
-    // The same for each text that says calls, in whatever spelling.
-    ensures answered_as_list { (name file text : List ℕ) (entries : List Entry) (calls : List Call)
-        → line.calls_name (map string_bytes words.now) ≡ Some name
-        → file_of (F.held files.old) name ≡ Some file → BlockBased file entries
-        → I.left input.old ≡ Some text → reading.read_calls text ≡ Ok calls
-        → IsFault result ⊎ Answered result entries calls (F.held files.old) (F.held files.new) (I.left input.new)
-        (O.written out.old) (O.written out.new) }
+    // The rest speaks of the behaviour of the command that the words are, whichever it is. The run finds what that says, and
+    // comes to its end so; or it is stopped, with a prefix of the text printed, or nothing.
+    ensures ends { Ends (behaviour (command_of (map string_bytes words.now)))
+        (world (F.held files.old) (I.left input.old) (O.written out.old) (F.faults files.old) (I.faults input.old) (O.faults out.old))
+        (world (F.held files.new) (I.left input.new) (O.written out.new) (F.faults files.new) (I.faults input.new) (O.faults out.new)) result }
 
-    // Each file that opens, whatever its separators, is answered by the way of its blocks: from the block to which the
-    // index leads. Where the separators separate, these are the answers of the list.
-    ensures answered { (name file text : List ℕ) (blocks : List IndexedBlock) (opens : Opens file blocks) (calls : List Call)
-        → line.calls_name (map string_bytes words.now) ≡ Some name
-        → file_of (F.held files.old) name ≡ Some file
-        → I.left input.old ≡ Some text → reading.read_calls text ≡ Ok calls
-        → IsFault result ⊎ AnsweredByWay result blocks calls (F.held files.old)
-        (F.held files.new) (I.left input.new) (O.written out.old) (O.written out.new) }
+    // The status, but for a fault and for out of memory, goes with something that the command may find.
+    ensures called { IsFault result ⊎ CallsFor (behaviour (command_of (map string_bytes words.now))) (tells (F.held files.old) (I.left input.old)) result }
 
-    // A file that doesn't open: the first thing that is wrong with it is printed, and the file shows it.
-    ensures damaged { (name file text : List ℕ) (calls : List Call)
-        → line.calls_name (map string_bytes words.now) ≡ Some name
-        → file_of (F.held files.old) name ≡ Some file → IsBytes file
-        → ((blocks : List IndexedBlock) → Opens file blocks → ⊥)
-        → I.left input.old ≡ Some text → reading.read_calls text ≡ Ok calls
-        → IsFault result ⊎ IsDamaged result file (I.left input.new) (O.written out.old) (O.written out.new) }
+    // Device goes with something that the command may find, or with a counted fault.
+    ensures device { result ≡ Status.Device → CallsFor (behaviour (command_of (map string_bytes words.now))) (tells (F.held files.old) (I.left input.old)) Status.Device
+        ⊎ HasFailed (world (F.held files.old) (I.left input.old) (O.written out.old) (F.faults files.old) (I.faults input.old) (O.faults out.old))
+        (world (F.held files.new) (I.left input.new) (O.written out.new) (F.faults files.new) (I.faults input.new) (O.faults out.new)) }
 
-    // An input of `calls` that is refused: the same, whatever the file.
-    ensures calls_refused { (name text : List ℕ) (refusal : Refusal)
-        → line.calls_name (map string_bytes words.now) ≡ Some name
-        → I.left input.old ≡ Some text → reading.read_calls text ≡ Err refusal
-        → IsFault result ⊎ ((result ≡ Status.Input)
-        × (O.written out.new ≡ append_known (O.written out.old) (refusal_text refusal))) }
-    ensures calls_near { (name text : List ℕ) (refusal : Refusal)
-        → line.calls_name (map string_bytes words.now) ≡ Some name
-        → I.left input.old ≡ Some text → reading.read_calls text ≡ Err refusal → result ≡ Status.Input
-        → IsTakenTo refusal.line text (I.left input.new) }
+    // What is printed: nothing, or a text that goes with something that the command may find, whole or cut short by a fault.
+    ensures printed { (O.written out.new ≡ O.written out.old) ⊎ ((text : List ℕ)
+        × MayPrint (behaviour (command_of (map string_bytes words.now))) (tells (F.held files.old) (I.left input.old)) text
+        × Prints result text (O.written out.old) (O.written out.new)) }
 
-    // A file of `calls` that isn't there, after the refusals of the input.
-    ensures absent { (name : List ℕ) → line.calls_name (map string_bytes words.now) ≡ Some name
-        → IsTrue (misses (F.held files.old) name 0) → (result ≡ Status.Input) ⊎ IsFault result }
+    // What may become of the files, whatever the status.
+    ensures changes { (behaviour (command_of (map string_bytes words.now))).MayChange (F.held files.old) (F.held files.new) }
 
-    // What a run that ends with Done has done, and what one without a fault has printed.
-    ensures done_written { result ≡ Status.Done → (write : WriteLine) (text : List ℕ)
-        → line.write_line (map string_bytes words.now) ≡ Some write → I.left input.old ≡ Some text
-        → (entries : List Entry) × (reading.read_input text ≡ Ok entries)
-        × Wrote result write entries (F.held files.old) (F.held files.new) (I.left input.new) (O.written out.old) (O.written out.new) }
-    ensures done_answered { result ≡ Status.Done → (name file text : List ℕ)
-        → line.calls_name (map string_bytes words.now) ≡ Some name → file_of (F.held files.old) name ≡ Some file
-        → I.left input.old ≡ Some text
-        → (blocks : List IndexedBlock) × (calls : List Call) × Opens file blocks × (reading.read_calls text ≡ Ok calls)
-        × AnsweredByWay result blocks calls (F.held files.old) (F.held files.new) (I.left input.new) (O.written out.old) (O.written out.new) }
-    ensures whole { result ≢ Status.Device → result ≢ Status.Memory → (text : List ℕ)
-        × IsTextFor (map string_bytes words.now) (F.held files.old) (I.left input.old) (line.out_name (map string_bytes words.now)) text
-        × (O.written out.new ≡ append_known (O.written out.old) text) }
-
-    // With any input and any file: which statuses there are, that the whole text is printed but for a fault, and its
-    // cause.
-    ensures usage_only { result ≡ Status.Usage
-        → (line.out_name (map string_bytes words.now) ≡ None) × (line.calls_name (map string_bytes words.now) ≡ None) }
-    ensures input_only { result ≡ Status.Input → (text : List ℕ) → I.left input.old ≡ Some text
-        → IsRefusedInput (map string_bytes words.now) text }
-    ensures done_only { result ≡ Status.Done → (name file : List ℕ) → line.calls_name (map string_bytes words.now) ≡ Some name
-        → file_of (F.held files.old) name ≡ Some file → (blocks : List IndexedBlock) × Opens file blocks }
-    ensures file_only { result ≡ Status.File → (name : List ℕ) × (line.calls_name (map string_bytes words.now) ≡ Some name)
-        × ((file : List ℕ) → file_of (F.held files.old) name ≡ Some file → (fault : BbtFault) × (blocks_read file ≡ Err fault)) }
-    ensures never { result ≢ Status.Exhausted }
-    ensures printed { (text : List ℕ)
-        × IsTextFor (map string_bytes words.now) (F.held files.old) (I.left input.old) (line.out_name (map string_bytes words.now)) text
-        × Prints result text (O.written out.old) (O.written out.new) }
-    ensures device { result ≡ Status.Device
-        → ((name : List ℕ) × (line.calls_name (map string_bytes words.now) ≡ Some name)
-        × IsLacking (F.held files.old) name (I.left input.old))
-        ⊎ (Rose (F.faults files.old) (F.faults files.new)
-        ⊎ (Rose (I.faults input.old) (I.faults input.new) ⊎ Rose (O.faults out.old) (O.faults out.new))) }
+    // Each fault that was counted is told as one.
     ensures hides_none { (result ≡ Status.Device)
         ⊎ ((F.faults files.new ≡ F.faults files.old) × ((I.faults input.new ≡ I.faults input.old) × (O.faults out.new ≡ O.faults out.old))) }
-    ensures begun { (name : List ℕ) → line.out_name (map string_bytes words.now) ≡ Some name → result ≡ Status.Input
-        → (bytes : List ℕ) × (F.held files.new ≡ put_file (F.held files.old) name bytes) }
-    ensures others { (name : List ℕ) → line.out_name (map string_bytes words.now) ≡ Some name
-        → ChangesOnly name (F.held files.old) (F.held files.new) }
-    ensures kept { (name : List ℕ) → line.calls_name (map string_bytes words.now) ≡ Some name
-        → F.held files.new ≡ F.held files.old }
+
+    // When the folder isn't touched, and when the input isn't.
+    ensures spares_folder { (behaviour (command_of (map string_bytes words.now))).SparesFolder (tells (F.held files.old) (I.left input.old)) result → files.new ≡ files.old }
+    ensures spares_input { (behaviour (command_of (map string_bytes words.now))).SparesInput (tells (F.held files.old) (I.left input.old)) result → input.new ≡ input.old }
 {
-    match write_line(words) {
-        Some(line) => write(alloc, line, files, input, out),
-        None => match calls_name(words) {
-            Some(name) => calls(alloc, name, files, input, out),
-            None => print(out, USAGE.as_bytes(), Status::Usage),
-        },
+    carry_out(alloc, command_of(words), files, input, out)
+}
+
+/// Carries out a command, or says that the words are none.
+fn carry_out<F: Folder, I: Intake, O: Sink>(
+    alloc: Global,
+    command: Option<Command<'_>>,
+    files: &mut F,
+    input: &mut I,
+    out: &mut O,
+) -> Status
+    ensures { Carries (behaviour (option_map seen command.entry))
+        (world (F.held files.old) (I.left input.old) (O.written out.old) (F.faults files.old) (I.faults input.old) (O.faults out.old))
+        (world (F.held files.new) (I.left input.new) (O.written out.new) (F.faults files.new) (I.faults input.new) (O.faults out.new))
+        result (files.new ≡ files.old) (input.new ≡ input.old) }
+{
+    match command {
+        Some(Command::Write(line)) => write(alloc, line, files, input, out),
+        Some(Command::Calls(name)) => calls(alloc, name, files, input, out),
+        None => print_usage(out),
     }
+}
+
+/// Says that the words are no command.
+fn print_usage<O: Sink>(out: &mut O) -> Status
+    ensures { (held : Option Files) (left : Option (List ℕ)) (folder intake : ℕ) → Carries no_command
+        (world held left (O.written out.old) folder intake (O.faults out.old))
+        (world held left (O.written out.new) folder intake (O.faults out.new)) result (Unit {0}) (Unit {0}) }
+{
+    print(out, USAGE.as_bytes(), Status::Usage)
 }

@@ -6,7 +6,7 @@ ghost use Rattle.sst_device.specs.Faults.{Rose};
 ghost use Rattle.sst_device.specs.Folder.{put_file};
 ghost use Rattle.sst_cli.specs.Reading.{read_input};
 ghost use Rattle.sst_cli.specs.Produced.{HasProduced};
-ghost use Rattle.sst_cli.specs.Run.{ChangesOnly};
+ghost use Rattle.sst_cli.specs.WriteCommand.{ChangesOnly};
 ghost use Rattle.sst_text.specs.Taken.{IsTakenTo};
 ghost use Rattle.sst_cli.specs.declared.input.refusal.Refusal.{Refusal};
 

@@ -2,13 +2,13 @@
 //!
 //! Of the input no more than one line and the piece around it is held at a time. The line's number is one
 //! more than the count of the calls before it.
-ghost use Rattle.std.specs.Prelude.{◌⊎◌, ◌≡◌, ◌≢◌, ℕ, ◌+◌, ◌<◌, ◌≤◌, ◌^◌, List, [], length, Some, Ok, Err, IfOk, OnOk};
+ghost use Rattle.std.specs.Prelude.{◌≡◌, ◌≢◌, ℕ, ◌+◌, ◌<◌, ◌≤◌, ◌^◌, List, [], length, Some, Ok, Err, IfOk, OnOk};
 ghost use Rattle.sst_key.specs.declared.calls.Call.{Call};
 ghost use Rattle.sst_text.specs.CallText.{IsInLimits, AreInLimits};
 ghost use Rattle.sst_cli.specs.Reading as reading;
 ghost use Rattle.sst_cli.specs.ReadingResult.{IsRefused};
 ghost use Rattle.sst_text.specs.Taken.{IsTakenTo};
-ghost use Rattle.sst_device.specs.Faults.{Rose};
+ghost use Rattle.sst_device.specs.Outside.{CountsFaults};
 ghost use Rattle.sst_cli.specs.declared.input.refusal.Refusal.{Refusal};
 
 use crate::input::call_list::Calls;
@@ -59,9 +59,7 @@ pub fn read_calls<I: Intake>(alloc: Global, input: &mut I) -> Result<Calls, Inpu
         → (text : List ℕ) → I.left input.old ≡ Some text → reading.read_calls text ≡ Err refusal }
     ensures near { (refusal : Refusal) → result ≡ Err (InputStop.Refused refusal)
         → (text : List ℕ) → I.left input.old ≡ Some text → IsTakenTo refusal.line text (I.left input.new) }
-    ensures failed { result ≡ Err (InputStop.Device DevStop.Failed) → Rose (I.faults input.old) (I.faults input.new) }
-    ensures counts { I.faults input.old ≤ I.faults input.new }
-    ensures hides_none { (result ≡ Err (InputStop.Device DevStop.Failed)) ⊎ (I.faults input.new ≡ I.faults input.old) }
+    ensures faults { CountsFaults (result ≡ Err (InputStop.Device DevStop.Failed)) (I.faults input.old) (I.faults input.new) }
 {
     let mut lines = LineReader::new(alloc);
     let mut calls = Calls::new(alloc);

@@ -11,7 +11,8 @@ ghost use Rattle.sst_cli.specs.Reading.{refused_at};
 ghost use Rattle.sst_cli.specs.NextLine.{IsNext, HasNoLine};
 ghost use Rattle.sst_text.specs.Taken.{past_line, IsTakenTo};
 ghost use Rattle.sst_cli.specs.ReadingResult.{HasAdded, IsRefused, HoldsInput};
-ghost use Rattle.sst_device.specs.Faults.{Rose};
+ghost use Rattle.sst_device.specs.Outside.{CountsFaults};
+ghost use Rattle.sst_bbt_write.specs.declared.bbt_options.BbtOptions.{BbtOptions};
 ghost use Rattle.sst_cli.specs.declared.input.refusal.Refusal.{Refusal};
 ghost use Rattle.sst_cli.specs.declared.input.entries.InputStop.TheVariants as stop;
 ghost use Rattle.sst_device.specs.declared.folder.DevStop.TheVariants as device;
@@ -70,9 +71,7 @@ pub fn next_line<I: Intake>(
     ensures close { length lines.old ≤ 65536 → IfOk result (λ _. length (past_line lines.new) ≤ 65536) }
     ensures near { length lines.old ≤ 65536 → (refusal : Refusal) → result ≡ Err (InputStop.Refused refusal)
         → (text : List ℕ) → prepend_known lines.old (I.left input.old) ≡ Some text → IsTakenTo 1 text (I.left input.new) }
-    ensures failed { result ≡ Err (InputStop.Device DevStop.Failed) → Rose (I.faults input.old) (I.faults input.new) }
-    ensures counts { I.faults input.old ≤ I.faults input.new }
-    ensures hides_none { (result ≡ Err (InputStop.Device DevStop.Failed)) ⊎ (I.faults input.new ≡ I.faults input.old) }
+    ensures faults { CountsFaults (result ≡ Err (InputStop.Device DevStop.Failed)) (I.faults input.old) (I.faults input.new) }
 {
     match lines.read_line(input)? {
         Found::Line(n) => Ok(Some(n)),
@@ -90,16 +89,15 @@ fn add_entry(
     file: &mut Vec<u8>,
 ) -> Result<(), InputStop>
     requires seq { entry.now.seq < 2 ^ 56 }
-    requires writer { (entries : List Entry) × (bytes : List ℕ) × After writer.old entries bytes }
-    ensures ok { OnOk result ((entries : List Entry) (bytes line : List ℕ) → After writer.old entries bytes
+    requires writer { (options : BbtOptions) × (entries : List Entry) × (bytes : List ℕ) × After writer.old options entries bytes }
+    ensures ok { OnOk result ((options : BbtOptions) (entries : List Entry) (bytes line : List ℕ) → After writer.old options entries bytes
         → reading.read_line entries line ≡ reading.by_entry entries (Some entry.now)
-        → HasAdded entries bytes line writer.new file.old.items file.new.items) }
+        → HasAdded options entries bytes line writer.new file.old.items file.new.items) }
     ensures refused { (refusal : Refusal) → result ≡ Err (InputStop.Refused refusal)
-        → (entries : List Entry) (bytes line : List ℕ) → After writer.old entries bytes
+        → (options : BbtOptions) (entries : List Entry) (bytes line : List ℕ) → After writer.old options entries bytes
         → reading.read_line entries line ≡ reading.by_entry entries (Some entry.now)
         → IsRefused (reading.read_line entries line) number refusal }
     ensures failed { result ≢ Err (InputStop.Device DevStop.Failed) }
-    ensures options { writer.new.options ≡ writer.old.options }
 {
     let view = EntryView {
         user: entry.user.as_slice(),
@@ -123,14 +121,13 @@ pub fn add_line(
     file: &mut Vec<u8>,
 ) -> Result<(), InputStop>
     requires short { length line.now ≤ 40000000 }
-    requires writer { (entries : List Entry) × (bytes : List ℕ) × After writer.old entries bytes }
-    ensures ok { OnOk result ((entries : List Entry) (bytes : List ℕ) → After writer.old entries bytes
-        → HasAdded entries bytes line.now writer.new file.old.items file.new.items) }
+    requires writer { (options : BbtOptions) × (entries : List Entry) × (bytes : List ℕ) × After writer.old options entries bytes }
+    ensures ok { OnOk result ((options : BbtOptions) (entries : List Entry) (bytes : List ℕ) → After writer.old options entries bytes
+        → HasAdded options entries bytes line.now writer.new file.old.items file.new.items) }
     ensures refused { (refusal : Refusal) → result ≡ Err (InputStop.Refused refusal)
-        → (entries : List Entry) (bytes : List ℕ) → After writer.old entries bytes
+        → (options : BbtOptions) (entries : List Entry) (bytes : List ℕ) → After writer.old options entries bytes
         → IsRefused (reading.read_line entries line.now) number refusal }
     ensures failed { result ≢ Err (InputStop.Device DevStop.Failed) }
-    ensures options { writer.new.options ≡ writer.old.options }
 {
     match entry_of_line(alloc, line)? {
         None => Err(refused(number, Reason::Line)),
@@ -147,17 +144,15 @@ pub fn add_lines<I: Intake>(
     input: &mut I,
     file: &mut Vec<u8>,
 ) -> Result<(), InputStop>
-    requires writer { After writer.old [] [] }
+    requires writer { (options : BbtOptions) × After writer.old options [] [] }
     requires empty { file.old.items ≡ [] }
-    ensures ok { OnOk result (HoldsInput writer.new file.new.items (I.left input.old) (I.left input.new)) }
+    ensures ok { OnOk result ((options : BbtOptions) → After writer.old options [] []
+        → HoldsInput writer.new options file.new.items (I.left input.old) (I.left input.new)) }
     ensures refused { (refusal : Refusal) → result ≡ Err (InputStop.Refused refusal)
         → (text : List ℕ) → I.left input.old ≡ Some text → reading.read_input text ≡ Err refusal }
     ensures near { (refusal : Refusal) → result ≡ Err (InputStop.Refused refusal)
         → (text : List ℕ) → I.left input.old ≡ Some text → IsTakenTo refusal.line text (I.left input.new) }
-    ensures failed { result ≡ Err (InputStop.Device DevStop.Failed) → Rose (I.faults input.old) (I.faults input.new) }
-    ensures counts { I.faults input.old ≤ I.faults input.new }
-    ensures hides_none { (result ≡ Err (InputStop.Device DevStop.Failed)) ⊎ (I.faults input.new ≡ I.faults input.old) }
-    ensures options { writer.new.options ≡ writer.old.options }
+    ensures faults { CountsFaults (result ≡ Err (InputStop.Device DevStop.Failed)) (I.faults input.old) (I.faults input.new) }
 {
     let mut lines = LineReader::new(alloc);
     loop {

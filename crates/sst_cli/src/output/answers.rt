@@ -1,8 +1,8 @@
 //! The answers to a list of calls.
-ghost use Rattle.std.specs.Prelude.{◌⊎◌, ◌≡◌, ℕ, ◌≤◌, List, [], ◌++◌, take, Option, Some, option_and_then, slice_get, Err, OnOk, OnErr};
+ghost use Rattle.std.specs.Prelude.{◌≡◌, ℕ, List, [], ◌++◌, take, Option, Some, option_and_then, slice_get, Err, OnOk, OnErr};
 ghost use Rattle.std.specs.Io.KnownBytes.{append_known};
 ghost use Rattle.sst_key.specs.ListMachine.{shows};
-ghost use Rattle.sst_device.specs.Faults.{Rose};
+ghost use Rattle.sst_device.specs.Outside.{CountsFaults};
 ghost use Rattle.sst_cli.specs.Replies.{answer_line, way_text};
 ghost use Rattle.sst_bbt_read.specs.Cursors.{Belongs, Comes, entry_shown, lent};
 ghost use Rattle.sst_bbt_read.specs.TableBlocks.{blocks_of};
@@ -96,9 +96,7 @@ fn print_waiting<O: Sink>(out: &mut O, text: &mut Vec<u8>, least: usize) -> Resu
     ensures err { OnErr result ((n : ℕ)
         × (O.written out.new ≡ append_known (O.written out.old) (take n text.old.items))) }
     ensures all { OnOk result (least ≡ 0 → text.new.items ≡ []) }
-    ensures failed { result ≡ Err DevStop.Failed → Rose (O.faults out.old) (O.faults out.new) }
-    ensures counts { O.faults out.old ≤ O.faults out.new }
-    ensures hides_none { (result ≡ Err DevStop.Failed) ⊎ (O.faults out.new ≡ O.faults out.old) }
+    ensures faults { CountsFaults (result ≡ Err DevStop.Failed) (O.faults out.old) (O.faults out.new) }
 {
     if text.len() < least {
         return Ok(());
@@ -120,9 +118,7 @@ pub fn print_answers<O: Sink>(
     ensures all { OnOk result (O.written out.new ≡ append_known (O.written out.old) (way_text (blocks_of reader.now) calls.now)) }
     ensures err { OnErr result ((n : ℕ)
         × (O.written out.new ≡ append_known (O.written out.old) (take n (way_text (blocks_of reader.now) calls.now)))) }
-    ensures failed { result ≡ Err DevStop.Failed → Rose (O.faults out.old) (O.faults out.new) }
-    ensures counts { O.faults out.old ≤ O.faults out.new }
-    ensures hides_none { (result ≡ Err DevStop.Failed) ⊎ (O.faults out.new ≡ O.faults out.old) }
+    ensures faults { CountsFaults (result ≡ Err DevStop.Failed) (O.faults out.old) (O.faults out.new) }
 {
     let mut position = reader.cursor();
     let mut text = Vec::new(alloc);

@@ -1,8 +1,8 @@
 //! What a command prints, and the status that goes with it.
-ghost use Rattle.std.specs.Prelude.{◌⊎◌, ◌≡◌};
-ghost use Rattle.sst_cli.specs.Refusals.{refusal_text};
-ghost use Rattle.sst_cli.specs.Run.{IsFault};
+ghost use Rattle.std.specs.Prelude.{◌≡◌};
+ghost use Rattle.sst_cli.specs.Behaviour.{IsFault};
 ghost use Rattle.sst_cli.specs.Printed.{IsPrinted};
+ghost use Rattle.sst_cli.specs.Refusals.{refusal_text};
 
 use crate::input::refusal::{Refusal, refusal_line};
 use crate::status::Status;
@@ -24,9 +24,8 @@ pub fn status_of(stop: DevStop) -> Status
 
 /// Prints a text, and answers the status that goes with it.
 pub fn print<O: Sink>(out: &mut O, text: &[u8], status: Status) -> Status
-    ensures printed { IsPrinted result status text.now (O.written out.old) (O.written out.new)
+    ensures { IsPrinted result (record { status = status; text = text.now }) (O.written out.old) (O.written out.new)
         (O.faults out.old) (O.faults out.new) }
-    ensures hides_none { (result ≡ Status.Device) ⊎ (O.faults out.new ≡ O.faults out.old) }
 {
     match put_all(out, text) {
         Ok(()) => status,
@@ -36,9 +35,8 @@ pub fn print<O: Sink>(out: &mut O, text: &[u8], status: Status) -> Status
 
 /// Prints why the input is refused.
 pub fn print_refusal<O: Sink>(alloc: Global, out: &mut O, refusal: Refusal) -> Status
-    ensures printed { IsPrinted result Status.Input (refusal_text refusal) (O.written out.old) (O.written out.new)
+    ensures { IsPrinted result (record { status = Status.Input; text = refusal_text refusal }) (O.written out.old) (O.written out.new)
         (O.faults out.old) (O.faults out.new) }
-    ensures hides_none { (result ≡ Status.Device) ⊎ (O.faults out.new ≡ O.faults out.old) }
 {
     match refusal_line(alloc, refusal) {
         Ok(text) => print(out, text.as_bytes(), Status::Input),

@@ -1,57 +1,26 @@
-use Rattle.std.proofs.Common.{Ok, Err, refl, sym, inl, inr}
-use Rattle.sst_bbt_read.specs.FaultText.{fault_text}
-use Rattle.sst_device.specs.Folder.{file_of}
-use Rattle.sst_bbt_read.specs.TableBlocks.{blocks_of, row_blocks_of}
-use Rattle.sst_bbt_read.proofs.JoinedBlocks.{table-seqs}
-use Rattle.sst_bbt_read.specs.Opening.{blocks_read}
-use Rattle.sst_cli.specs.Replies.{way_text}
-use Rattle.sst_bbt_read.proofs.BlocksOpened.{blocks_read-found}
-use Rattle.sst_cli.proofs.CallsPrinted.{answered, file_text_is, some_answers_text}
-use Rattle.sst_cli.proofs.PrintedTexts.{some_printed, none_printed}
+use Rattle.std.proofs.Common.{refl, sym}
+use Rattle.sst_bbt_read.specs.TableBlocks.{blocks_of}
+use Rattle.sst_num.specs.declared.stops.Stop.TheVariants as stop
+use Rattle.sst_cli.specs.CallsCommand.{answers_of}
+use Rattle.sst_cli.specs.OpenFile.{Damaged, Opened, on_file}
+use Rattle.sst_cli.proofs.Carried.{carries-printed}
+use Rattle.sst_cli.proofs.FileFound.{file_opens, file_damaged}
+use Rattle.sst_cli.proofs.OneReading.{with_ok, with_err}
 use Rattle.sst_cli.proofs.commands.calls.answer_calls.Goals as goal
 
-pub returns-in-Ok-clause-told : goal.returns-in-Ok-clause-told
-returns-in-Ok-clause-told g c = λ file held.
-    let blocks = blocks_of c.in-Ok.reader in
-    let seqs = table-seqs c.in-Ok.reader (rw (sym c.reader.view_is) c.reader.invariant) in
-    answered c.print_all.result (Ok (row_blocks_of blocks)) (blocks_read file) c.args.calls.now (way_text blocks c.args.calls.now) (g.O.Sink.written c.args.out.now) (g.O.Sink.written c.print_all.new.out) (g.O.Sink.faults c.args.out.now) (g.O.Sink.faults c.print_all.new.out)
-    c.print_all.ensures.printed (blocks, seqs, refl, refl) (sym (c.in-Ok.ensures.told file held))
+pub returns-in-Ok : goal.returns-in-Ok
+returns-in-Ok g c = λ left intake.
+    let is = file_opens (g.F.Folder.held c.args.files.now) c.args.name.now c.open.result c.in-Ok.reader c.in-Ok.is (rw (sym c.reader.view_is) c.reader.invariant) c.open.ensures.absent c.in-Ok.ensures.told in
+    let quiet = with_ok c.open.result c.in-Ok.reader stop.Device _ c.in-Ok.is c.open.ensures.hides_none in
+    carries-printed (on_file c.args.name.now (answers_of c.args.calls.now)) (Opened (blocks_of c.in-Ok.reader)) _ _ c.print_all.result _ _ is
+    (c.open.ensures.same_files, refl) c.open.ensures.same_files (λ none. absurd none) (λ spared. tt) quiet refl c.print_all.ensures
 
-pub returns-in-Ok-clause-printed : goal.returns-in-Ok-clause-printed
-returns-in-Ok-clause-printed g c =
-    let text = way_text (blocks_of c.in-Ok.reader) c.args.calls.now in
-    let file = file_of (g.F.Folder.held c.args.files.now) c.args.name.now in (
-      text,
-      file_text_is file (Ok (row_blocks_of (blocks_of c.in-Ok.reader))) c.args.calls.now text c.in-Ok.ensures.told (blocks_of c.in-Ok.reader, table-seqs c.in-Ok.reader (rw (sym c.reader.view_is) c.reader.invariant), refl, refl),
-      some_printed _ _ text (g.O.Sink.written c.args.out.now) (g.O.Sink.written c.print_all.new.out) (g.O.Sink.faults c.args.out.now) (g.O.Sink.faults c.print_all.new.out) c.print_all.ensures.printed,
-    )
-
-pub returns-in-Err-Damage-clause-printed : goal.returns-in-Err-Damage-clause-printed
-returns-in-Err-Damage-clause-printed g c =
-    let text = fault_text c.in-Err-Damage.fault in
-    let file = file_of (g.F.Folder.held c.args.files.now) c.args.name.now in
-    let reads = rw c.in-Err-Damage.field-0-is at c.in-Err-Damage.ensures.told in (
-      text,
-      file_text_is file (Err c.in-Err-Damage.fault) c.args.calls.now text reads refl,
-      some_printed _ _ text (g.O.Sink.written c.args.out.now) (g.O.Sink.written c.print_fault.new.out) (g.O.Sink.faults c.args.out.now) (g.O.Sink.faults c.print_fault.new.out) c.print_fault.ensures.printed,
-    )
-
-pub returns-in-Err-Device-clause-printed : goal.returns-in-Err-Device-clause-printed
-returns-in-Err-Device-clause-printed g c =
-    let some = some_answers_text (file_of (g.F.Folder.held c.args.files.now) c.args.name.now) c.args.calls.now in
-    (some.0, some.1, none_printed _ some.0 (g.O.Sink.written c.args.out.now) (inl refl))
-
-pub returns-in-Err-Memory-clause-printed : goal.returns-in-Err-Memory-clause-printed
-returns-in-Err-Memory-clause-printed g c =
-    let some = some_answers_text (file_of (g.F.Folder.held c.args.files.now) c.args.name.now) c.args.calls.now in
-    (some.0, some.1, none_printed _ some.0 (g.O.Sink.written c.args.out.now) (inr refl))
-
-pub returns-in-Err-Damage-clause-damaged : goal.returns-in-Err-Damage-clause-damaged
-returns-in-Err-Damage-clause-damaged g c = λ ends file held.
+pub returns-in-Err-Damage : goal.returns-in-Err-Damage
+returns-in-Err-Damage g c = λ left intake.
+    let fault = c.in-Err-Damage.fault in
+    let told = rw c.in-Err-Damage.field-0-is at c.in-Err-Damage.is in
     let reads = rw c.in-Err-Damage.field-0-is at c.in-Err-Damage.ensures.told in
-    (c.in-Err-Damage.fault, reads file held)
-
-pub returns-in-Ok-clause-opened : goal.returns-in-Ok-clause-opened
-returns-in-Ok-clause-opened g c = λ is file held.
-    let found = blocks_read-found file _ (c.in-Ok.ensures.told file held) in
-    (found.0, found.1)
+    let is = file_damaged (g.F.Folder.held c.args.files.now) c.args.name.now c.open.result fault told c.open.ensures.absent reads in
+    let quiet = with_err c.open.result (stop.Damage fault) stop.Device _ told (λ e. cc) c.open.ensures.hides_none in
+    carries-printed (on_file c.args.name.now (answers_of c.args.calls.now)) (Damaged fault) _ _ c.print_fault.result _ _ is
+    (c.open.ensures.same_files, refl) c.open.ensures.same_files (λ none. absurd none) (λ spared. tt) quiet refl c.print_fault.ensures

@@ -1,37 +1,36 @@
-use Rattle.std.proofs.Common.{Ok, Err, refl, subst}
-use Rattle.sst_device.specs.Folder.{file_of}
-use Rattle.sst_cli.specs.declared.input.refusal.Refusal.{Refusal}
-use Rattle.sst_cli.specs.Reading.{read_calls}
-use Rattle.sst_cli.specs.Refusals.{refusal_text}
-use Rattle.sst_text.specs.Taken.{IsTakenTo}
-use Rattle.sst_cli.proofs.CallsPrinted.{input_text_is, some_calls_text}
-use Rattle.sst_cli.proofs.PrintedTexts.{some_printed, none_printed, same_refusal}
+use Rattle.std.proofs.Common.{Ok, Err, refl, inl, inr}
+use Rattle.sst_cli.specs.CallsCommand.{calls_command}
+use Rattle.sst_cli.specs.CallsCommand as found
+use Rattle.sst_cli.specs.declared.input.entries.InputStop.TheVariants as stop
+use Rattle.sst_device.specs.declared.folder.DevStop.TheVariants as device
+use Rattle.sst_cli.proofs.CallsCarried.{carries-read}
+use Rattle.sst_cli.proofs.Carried.{carries-printed, carries-fault}
+use Rattle.sst_cli.proofs.OneReading.{with_ok, with_err}
+use Rattle.sst_cli.proofs.Stops.{failed_stop, stop_failed, refused_apart}
 use Rattle.sst_cli.proofs.commands.calls.calls.Goals as goal
 
-pub returns-in-Ok-clause-printed : goal.returns-in-Ok-clause-printed
-returns-in-Ok-clause-printed g c =
-    let printed = rw c.as_slice.ensures at c.answer_calls.ensures.printed in
-    let file = file_of (g.F.Folder.held c.args.files.now) c.args.name.now in
-    (printed.0, input_text_is file (g.I.Intake.left c.args.input.now) (Ok c.in-Ok.calls) printed.0 (λ text told. (c.in-Ok.ensures.ok text told).0) printed.1, printed.2)
+pub returns-in-Ok : goal.returns-in-Ok
+returns-in-Ok g c =
+    let quiet = with_ok c.read_calls.result c.in-Ok.calls (stop.Device device.Failed) _ c.in-Ok.is c.read_calls.ensures.faults.hides_none in
+    let intake = g.I.Intake.faults c.args.input.now in
+    let carried = rw c.as_slice.ensures at (c.answer_calls.ensures (g.I.Intake.left c.read_calls.new.input) intake) in
+    carries-read c.args.name.now c.in-Ok.calls _ _ (g.I.Intake.left c.args.input.now) (g.I.Intake.left c.read_calls.new.input) _ _ _ _ intake (g.I.Intake.faults c.read_calls.new.input) _ _ c.answer_calls.result _ _
+    c.in-Ok.ensures.ok quiet carried
 
-pub returns-in-Err-Refused-clause-printed : goal.returns-in-Err-Refused-clause-printed
-returns-in-Err-Refused-clause-printed g c =
+pub returns-in-Err-Refused : goal.returns-in-Err-Refused
+returns-in-Err-Refused g c =
     let refusal = c.in-Err-Refused.refusal in
-    let said = c.read_calls.ensures.refused refusal (rw c.in-Err-Refused.field-0-is at c.in-Err-Refused.is) in
-    let file = file_of (g.F.Folder.held c.args.files.now) c.args.name.now in (
-      refusal_text refusal,
-      input_text_is file (g.I.Intake.left c.args.input.now) (Err refusal) (refusal_text refusal) said refl,
-      some_printed _ _ (refusal_text refusal) (g.O.Sink.written c.args.out.now) (g.O.Sink.written c.print_refusal.new.out) (g.O.Sink.faults c.args.out.now) (g.O.Sink.faults c.print_refusal.new.out) c.print_refusal.ensures.printed,
-    )
+    let told = rw c.in-Err-Refused.field-0-is at c.in-Err-Refused.is in
+    let quiet = with_err c.read_calls.result (stop.Refused refusal) (stop.Device device.Failed) _ told (refused_apart refusal device.Failed) c.read_calls.ensures.faults.hides_none in
+    carries-printed (calls_command c.args.name.now) (found.Refused refusal) _ _ c.print_refusal.result _ _ (c.read_calls.ensures.refused refusal told)
+    (refl, c.read_calls.ensures.near refusal told) refl (λ spared. refl) (λ none. absurd none) refl quiet c.print_refusal.ensures
 
-pub returns-in-Err-Device-clause-printed : goal.returns-in-Err-Device-clause-printed
-returns-in-Err-Device-clause-printed g c =
-    let some = some_calls_text (file_of (g.F.Folder.held c.args.files.now) c.args.name.now) (g.I.Intake.left c.args.input.now) in
-    (some.0, some.1, none_printed _ some.0 (g.O.Sink.written c.args.out.now) c.status_of.ensures.fault)
-
-pub returns-in-Err-Refused-clause-near : goal.returns-in-Err-Refused-clause-near
-returns-in-Err-Refused-clause-near g c = λ is text refusal told reads.
-    let some = c.in-Err-Refused.refusal in
-    let answered = rw c.in-Err-Refused.field-0-is at c.in-Err-Refused.is in
-    let same = same_refusal (read_calls text) some refusal (c.read_calls.ensures.refused some answered text told) reads in
-    subst (λ (r : Refusal). IsTakenTo r.line text (g.I.Intake.left c.read_calls.new.input)) same (c.read_calls.ensures.near some answered text told)
+pub returns-in-Err-Device : goal.returns-in-Err-Device
+returns-in-Err-Device g c =
+    let told = rw c.in-Err-Device.field-0-is at c.in-Err-Device.is in
+    let faults = c.read_calls.ensures.faults in
+    carries-fault (calls_command c.args.name.now) _ _ c.status_of.result _ _ _ c.status_of.ensures.fault
+    (λ is. inr (inl (faults.cause (failed_stop c.read_calls.result c.in-Err-Device.stop told (c.status_of.ensures.device is)))))
+    (λ failed. c.status_of.ensures.failed (stop_failed c.read_calls.result c.in-Err-Device.stop told failed))
+    (elim faults.hides_none [ inl failed ↦ inl failed | inr quiet ↦ inr (refl, quiet) ]) refl refl
+    refl (λ spared. refl) (λ none. absurd none)

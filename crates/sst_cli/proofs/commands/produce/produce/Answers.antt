@@ -1,6 +1,5 @@
 use Rattle.std.proofs.Common.{ℕ, List, take, Err, sym, ap, ◌∙◌, inl, inr, subst}
 use Rattle.std.proofs.lemmas.Result.{err_from_is_err_and}
-use Rattle.sst_bbt_write.specs.declared.bbt_options.BbtOptions.{BbtOptions}
 use Rattle.sst_bbt_write.specs.Written.{Written}
 use Rattle.sst_device.proofs.FolderLaws.{appended_to_new, append_cause}
 use Rattle.sst_cli.specs.declared.input.entries.InputStop.TheVariants as stop
@@ -10,8 +9,8 @@ use Rattle.sst_cli.proofs.commands.produce.produce.Goals as goal
 
 pub finish-requires : goal.finish-requires
 finish-requires g c =
-    let holds = c.in_ok-add_lines.ensures.ok in
-    inr (holds.entries, c.add_lines.new.file.items, holds.after)
+    let holds = c.in_ok-add_lines.ensures.ok c.args.line.options c.in_ok-writer.ensures in
+    inr (c.args.line.options, holds.entries, c.add_lines.new.file.items, holds.after)
 
 pub returns-in_err-add_lines-clause-refused : goal.returns-in_err-add_lines-clause-refused
 returns-in_err-add_lines-clause-refused g c = λ refusal is text told.
@@ -39,15 +38,14 @@ returns-in_err-add-clause-failed g c = λ failed.
 
 pub returns-clause-ok : goal.returns-clause-ok
 returns-clause-ok g c =
-    let holds = c.in_ok-add_lines.ensures.ok in
-    let last = c.in_ok-count.ensures.written holds.entries c.add_lines.new.file.items holds.after in
+    let holds = c.in_ok-add_lines.ensures.ok c.args.line.options c.in_ok-writer.ensures in
+    let last = c.in_ok-count.ensures.written c.args.line.options holds.entries c.add_lines.new.file.items holds.after in
     let bytes = c.deref.ensures.value ∙ last.1 in
-    let options = c.add_lines.ensures.options ∙ c.in_ok-writer.ensures.options in
     let held = appended_to_new (g.F.Folder.held c.args.files.now) (g.F.Folder.held c.begin.new.self) (g.F.Folder.held c.add.new.self) c.args.line.name.now c.deref.result.now c.in_ok-begin.ensures.begun c.in_ok-add.ensures.added in
     record {
       entries = holds.entries;
       counted = last.3;
-      file = (c.deref.result.now, subst (λ (o : BbtOptions). Written o c.deref.result.now holds.entries) options (subst (λ (b : List ℕ). Written c.add_lines.new.writer.options b holds.entries) (sym bytes) last.2), held);
+      file = (c.deref.result.now, subst (λ (b : List ℕ). Written c.args.line.options b holds.entries) (sym bytes) last.2, held);
       said = holds.said;
       read = holds.read;
     }

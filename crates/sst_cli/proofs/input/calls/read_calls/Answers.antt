@@ -60,7 +60,7 @@ loop-calls-preserved g c =
       short = short;
       limits = limits;
       few = omega arith;
-      counts = grind (arith, kept.counts, c.next_line.ensures.hides_none);
+      counts = grind (arith, kept.counts, c.next_line.ensures.faults.hides_none);
     })
 
 pub returns-in_err-next_line-clause-near : goal.returns-in_err-next_line-clause-near

@@ -12,16 +12,16 @@ add_entry-requires-clause-seq c =
     entry_of_line-seq c.args.line.now c.in-Some.entry (sym c.in_ok-entry_of_line.ensures ∙ c.in-Some.is)
 
 pub returns-in-None-clause-refused : goal.returns-in-None-clause-refused
-returns-in-None-clause-refused c = λ refusal is entries bytes after.
+returns-in-None-clause-refused c = λ refusal is options entries bytes after.
     line_refused entries c.args.line.now c.args.number c.refused.result refusal c.requires.short (sym c.in_ok-entry_of_line.ensures ∙ c.in-None.is) c.refused.ensures (given_answer c.refused.result (stop.Refused refusal) is)
 
 pub returns-in-Some-clause-ok : goal.returns-in-Some-clause-ok
 returns-in-Some-clause-ok c =
     let line = c.args.line.now in
     let reads = λ (entries : List Entry). read_line-short entries line c.requires.short ∙ ap (by_entry entries) (sym c.in_ok-entry_of_line.ensures ∙ c.in-Some.is) in
-    on_ok_weaker c.add_entry.result (λ ok entries bytes after. ok entries bytes line after (reads entries)) c.add_entry.ensures.ok
+    on_ok_weaker c.add_entry.result (λ ok options entries bytes after. ok options entries bytes line after (reads entries)) c.add_entry.ensures.ok
 
 pub returns-in-Some-clause-refused : goal.returns-in-Some-clause-refused
-returns-in-Some-clause-refused c = λ refusal is entries bytes after.
+returns-in-Some-clause-refused c = λ refusal is options entries bytes after.
     let line = c.args.line.now in
-    c.add_entry.ensures.refused refusal is entries bytes line after (read_line-short entries line c.requires.short ∙ ap (by_entry entries) (sym c.in_ok-entry_of_line.ensures ∙ c.in-Some.is))
+    c.add_entry.ensures.refused refusal is options entries bytes line after (read_line-short entries line c.requires.short ∙ ap (by_entry entries) (sym c.in_ok-entry_of_line.ensures ∙ c.in-Some.is))

@@ -1,16 +1,11 @@
 -- Of a file that stands for a list the text of the answers is the list's.
-use Rattle.std.proofs.Common.{◌≡◌, ℕ, List, [], ◌∷◌, All, refl, ap, ◌∙◌}
+use Rattle.std.proofs.Common.{◌≡◌, ℕ, List, ap, ◌∙◌}
 use Rattle.sst_key.specs.declared.entries.Entry.{Entry}
 use Rattle.sst_key.specs.declared.calls.Call.{Call}
 use Rattle.sst_bbt_spec.specs.BlockBased.{BlockBased}
-use Rattle.sst_bbt_spec.specs.Rows.{HasSeq, rows_of}
-use Rattle.sst_bbt_spec.specs.Way.{IndexedBlock, joined, way_replies}
-use Rattle.sst_bbt_spec.proofs.EntriesOfRows.{rows_of-one}
+use Rattle.sst_bbt_spec.specs.Way.{way_replies}
 use Rattle.sst_bbt_spec.proofs.Stands.{stands-replies}
-use Rattle.sst_bbt_spec.proofs.WayLaws.{All-front, All-back}
-use Rattle.sst_bbt_read.specs.Opening.{RowBlock}
 use Rattle.sst_cli.specs.Replies.{lines_of, answers_from, answers_text, way_from, way_text}
-use Rattle.sst_bbt_read.specs.TableBlocks.{row_block_of, row_blocks_of}
 
 -- the text of the answers is that of the list's
 pub stands-text : (file : List ℕ) (entries : List Entry) (stands : BlockBased file entries) (calls : List Call)

@@ -1,0 +1,143 @@
+-- What a file may be found as, and that a told folder leaves one answer.
+use Rattle.std.proofs.Common.{◌≡◌, ◌⊎◌, ℕ, List, All, Option, None, Some, Result, Ok, Err, IsTrue, length, inl, inr, refl, sym, ap, subst, ◌∙◌, arith}
+use Rattle.std.specs.FinMap.{get}
+use Rattle.std.proofs.lemmas.Bool.{false≢true, le-ltb}
+use Rattle.sst_device.specs.Folder.{Files, file_of, misses, ends_before}
+use Rattle.sst_bbt_spec.specs.BlockBased.{Opens}
+use Rattle.sst_bbt_spec.specs.Rows.{HasSeq}
+use Rattle.sst_bbt_spec.specs.Way.{IndexedBlock, joined}
+use Rattle.sst_bbt_spec.proofs.Stands.{opens-seqs}
+use Rattle.sst_bbt_read.specs.Opening.{RowBlock, blocks_read}
+use Rattle.sst_num.specs.declared.stops.Stop.{Stop}
+use Rattle.sst_num.specs.declared.stops.Stop.TheVariants.{Damage, Device, Memory}
+use Rattle.sst_bbt_read.specs.TableBlocks.{OpenTable, IsOpenTable, blocks_of, row_blocks_of}
+use Rattle.sst_bbt_read.proofs.JoinedBlocks.{table-seqs}
+use Rattle.sst_bbt_read.specs.declared.bbt_fault.BbtFault.{BbtFault}
+use Rattle.sst_bbt_read.proofs.BlocksOnce.{row_blocks-one}
+use Rattle.sst_bbt_read.proofs.BlocksOpened.{blocks_read-opens, blocks_read-found}
+use Rattle.sst_cli.specs.Behaviour.{Outcome, FileIs}
+use Rattle.sst_cli.specs.OpenFile.{OpenFile, Absent, Damaged, Opened, IsOpenFile, file_outcome}
+use Rattle.sst_cli.proofs.OneReading.{same_some, same_ok, same_err, not_both}
+
+-- a file that isn't missed, and is so where it is told
+file_there : (files : Files) (name : List ℕ) (P : List ℕ → Type 0) (found : Option (List ℕ)) → get files name ≡ found
+    → (IsTrue (ends_before found 0) → ⊥) → ((file : List ℕ) → found ≡ Some file → P file)
+    → (file : List ℕ) × (get files name ≡ Some file) × P file
+file_there files name P None is there told = absurd (there refl)
+file_there files name P (Some file) is there told = (file, is, told file refl)
+
+pub file_is : (held : Option Files) (name : List ℕ) (P : List ℕ → Type 0) → (IsTrue (misses held name 0) → ⊥)
+    → ((file : List ℕ) → file_of held name ≡ Some file → P file) → FileIs held name P
+file_is None name P there told = λ files is. absurd cc
+file_is (Some all) name P there told = λ files is.
+    let same : all ≡ files = cc in
+    subst (λ (fs : Files). (file : List ℕ) × (get fs name ≡ Some file) × P file) same (file_there all name P (get all name) refl there told)
+
+-- where the named file is told, it is the one that is so
+pub file_told : (held : Option Files) (name file : List ℕ) (P : List ℕ → Type 0) → FileIs held name P → file_of held name ≡ Some file → P file
+file_told None name file P is told = absurd cc
+file_told (Some files) name file P is told =
+    let some = is files refl in
+    subst P (same_some (get files name) some.0 file some.1 told) some.2
+
+-- a file that is told isn't missed
+missed_is_not_told : (found : Option (List ℕ)) (file : List ℕ) → IsTrue (ends_before found 0) → found ≡ Some file → ⊥
+missed_is_not_told None file missed told = cc
+missed_is_not_told (Some bytes) file missed told = false≢true (sym (le-ltb (length bytes) 0 (omega arith)) ∙ missed)
+
+pub not_missed : (held : Option Files) (name file : List ℕ) → IsTrue (misses held name 0) → file_of held name ≡ Some file → ⊥
+not_missed None name file missed told = cc
+not_missed (Some files) name file missed told = missed_is_not_told (get files name) file missed told
+
+-- a file that reads as blocks with sequence numbers opens to them
+pub reads_opens : (file : List ℕ) (blocks : List IndexedBlock) → All HasSeq (joined blocks) → blocks_read file ≡ Ok (row_blocks_of blocks) → Opens file blocks
+reads_opens file blocks seqs reads =
+    let found = blocks_read-found file (row_blocks_of blocks) reads in
+    let same = row_blocks-one found.0 blocks (opens-seqs file found.0 found.1) seqs (sym found.2) in
+    subst (Opens file) same found.1
+
+-- ---- what opening answered
+
+-- the table of a file that was opened
+pub file_opens : (held : Option Files) (name : List ℕ) (result : Result OpenTable (Stop BbtFault)) (table : OpenTable) → result ≡ Ok table → IsOpenTable table
+    → (IsTrue (misses held name 0) → (result ≡ Err Device) ⊎ (result ≡ Err Memory))
+    → ((file : List ℕ) → file_of held name ≡ Some file → blocks_read file ≡ Ok (row_blocks_of (blocks_of table)))
+    → FileIs held name (λ file. Opens file (blocks_of table))
+file_opens held name result table is is_open absent told =
+    file_is held name (λ file. Opens file (blocks_of table))
+    (λ missed. elim (absent missed) [ inl device ↦ not_both result table Device is device | inr memory ↦ not_both result table Memory is memory ])
+    (λ file there. reads_opens file (blocks_of table) (table-seqs table is_open) (told file there))
+
+damage_apart : (result : Result OpenTable (Stop BbtFault)) (fault : BbtFault) → result ≡ Err (Damage fault) → (result ≡ Err Device) ⊎ (result ≡ Err Memory) → ⊥
+damage_apart result fault is (inl device) = let both = same_err result (Damage fault) Device is device in cc
+damage_apart result fault is (inr memory) = let both = same_err result (Damage fault) Memory is memory in cc
+
+-- the fault of one that wasn't
+pub file_damaged : (held : Option Files) (name : List ℕ) (result : Result OpenTable (Stop BbtFault)) (fault : BbtFault) → result ≡ Err (Damage fault)
+    → (IsTrue (misses held name 0) → (result ≡ Err Device) ⊎ (result ≡ Err Memory))
+    → ((file : List ℕ) → file_of held name ≡ Some file → blocks_read file ≡ Err fault)
+    → FileIs held name (λ file. blocks_read file ≡ Err fault)
+file_damaged held name result fault is absent told =
+    file_is held name (λ file. blocks_read file ≡ Err fault) (λ missed. damage_apart result fault is (absent missed)) told
+
+-- a file opens to one row of blocks
+pub opens_once : (file : List ℕ) (some other : List IndexedBlock) → Opens file some → Opens file other → some ≡ other
+opens_once file some other a b =
+    row_blocks-one some other (opens-seqs file some a) (opens-seqs file other b)
+    (same_ok (blocks_read file) (row_blocks_of some) (row_blocks_of other) (blocks_read-opens file some a) (blocks_read-opens file other b))
+
+-- a file that opens has no fault
+pub opens_no_fault : (file : List ℕ) (blocks : List IndexedBlock) (fault : BbtFault) → Opens file blocks → blocks_read file ≡ Err fault → ⊥
+opens_no_fault file blocks fault opens damaged =
+    not_both (blocks_read file) (row_blocks_of blocks) fault (blocks_read-opens file blocks opens) damaged
+
+-- ---- a told folder leaves one answer
+
+-- a file that is there isn't missed
+pub there_not_missed : (held : Option Files) (name : List ℕ) (P : List ℕ → Type 0) → IsTrue (misses held name 0) → FileIs held name P → ⊥
+there_not_missed None name P missed is = cc
+there_not_missed (Some files) name P missed is =
+    let some = is files refl in not_missed (Some files) name some.0 missed some.1
+
+-- two things that are so of a file in a told folder are so of one file
+both_of_one : (files : Files) (name : List ℕ) (P Q : List ℕ → Type 0) → FileIs (Some files) name P → FileIs (Some files) name Q
+    → (file : List ℕ) × P file × Q file
+both_of_one files name P Q p q =
+    let some = p files refl in
+    (some.0, some.2, file_told (Some files) name some.0 Q q some.1)
+
+pub one_file_outcome : (answer : List IndexedBlock → Outcome) (files : Files) (name : List ℕ) (some other : OpenFile)
+    → IsOpenFile (Some files) name some → IsOpenFile (Some files) name other → file_outcome answer some ≡ file_outcome answer other
+one_file_outcome answer files name Absent Absent a b = refl
+one_file_outcome answer files name Absent (Damaged fault) a b = absurd (there_not_missed (Some files) name (λ file. blocks_read file ≡ Err fault) a b)
+one_file_outcome answer files name Absent (Opened blocks) a b = absurd (there_not_missed (Some files) name (λ file. Opens file blocks) a b)
+one_file_outcome answer files name (Damaged fault) Absent a b = absurd (there_not_missed (Some files) name (λ file. blocks_read file ≡ Err fault) b a)
+one_file_outcome answer files name (Damaged fault) (Damaged other) a b =
+    let one = both_of_one files name (λ file. blocks_read file ≡ Err fault) (λ file. blocks_read file ≡ Err other) a b in
+    ap (λ (f : BbtFault). file_outcome answer (Damaged f)) (same_err (blocks_read one.0) fault other one.1 one.2)
+one_file_outcome answer files name (Damaged fault) (Opened blocks) a b =
+    let one = both_of_one files name (λ file. blocks_read file ≡ Err fault) (λ file. Opens file blocks) a b in
+    absurd (opens_no_fault one.0 blocks fault one.2 one.1)
+one_file_outcome answer files name (Opened blocks) Absent a b = absurd (there_not_missed (Some files) name (λ file. Opens file blocks) b a)
+one_file_outcome answer files name (Opened blocks) (Damaged fault) a b =
+    let one = both_of_one files name (λ file. Opens file blocks) (λ file. blocks_read file ≡ Err fault) a b in
+    absurd (opens_no_fault one.0 blocks fault one.1 one.2)
+one_file_outcome answer files name (Opened blocks) (Opened others) a b =
+    let one = both_of_one files name (λ file. Opens file blocks) (λ file. Opens file others) a b in
+    ap answer (opens_once one.0 blocks others one.1 one.2)
+
+-- and there is always one
+found_bytes : (files : Files) (name file : List ℕ) (read : Result (List RowBlock) BbtFault) → get files name ≡ Some file → blocks_read file ≡ read
+    → (found : OpenFile) × IsOpenFile (Some files) name found
+found_bytes files name file (Ok rows) there reads =
+    let opens = blocks_read-found file rows reads in
+    (Opened opens.0, λ all is. (file, (let same : files ≡ all = cc in rw (← same) there), opens.1))
+found_bytes files name file (Err fault) there reads =
+    (Damaged fault, λ all is. (file, (let same : files ≡ all = cc in rw (← same) there), reads))
+
+found_some : (files : Files) (name : List ℕ) (bytes : Option (List ℕ)) → get files name ≡ bytes → (found : OpenFile) × IsOpenFile (Some files) name found
+found_some files name None none = (Absent, ap (λ (o : Option (List ℕ)). ends_before o 0) none)
+found_some files name (Some file) there = found_bytes files name file (blocks_read file) there refl
+
+pub found_file : (files : Files) (name : List ℕ) → (found : OpenFile) × IsOpenFile (Some files) name found
+found_file files name = found_some files name (get files name) refl

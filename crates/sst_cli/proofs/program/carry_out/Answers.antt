@@ -1,0 +1,16 @@
+use Rattle.std.proofs.Common.{refl}
+use Rattle.sst_cli.specs.NoCommand.{no_command}
+use Rattle.sst_cli.specs.declared.command.Command.TheVariants as code
+use Rattle.sst_cli.proofs.Carried.{carries-seen, carries-spared}
+use Rattle.sst_cli.proofs.program.carry_out.Goals as goal
+
+pub returns-in-Some-Write : goal.returns-in-Some-Write
+returns-in-Some-Write g c =
+    let step = c.in-Some-Write in
+    carries-seen c.args.command step.field-0 (code.Write step.line) _ _ c.write.result _ _ step.is (rw step.is at step.field-0-is) c.write.ensures
+
+pub returns-in-None : goal.returns-in-None
+returns-in-None g c =
+    let none = c.in-None.is in
+    rw none (carries-spared no_command _ _ c.print_usage.result _ _ _ _ refl refl
+    (c.print_usage.ensures (g.F.Folder.held c.args.files.now) (g.I.Intake.left c.args.input.now) (g.F.Folder.faults c.args.files.now) (g.I.Intake.faults c.args.input.now)))

@@ -1,0 +1,20 @@
+use Rattle.sst_cli.proofs.CommandWords as lemma
+use Rattle.sst_cli.proofs.run_laws.a_command_is_by_its_words.Goals as goal
+
+pub returns-clause-write : goal.returns-clause-write
+returns-clause-write c = lemma.is_write
+
+pub returns-clause-calls : goal.returns-clause-calls
+returns-clause-calls c = lemma.is_calls
+
+pub returns-clause-is_write : goal.returns-clause-is_write
+returns-clause-is_write c = lemma.write_is
+
+pub returns-clause-is_calls : goal.returns-clause-is_calls
+returns-clause-is_calls c = lemma.calls_is
+
+pub returns-clause-none : goal.returns-clause-none
+returns-clause-none c = lemma.none_is
+
+pub returns-clause-neither : goal.returns-clause-neither
+returns-clause-neither c = lemma.is_none

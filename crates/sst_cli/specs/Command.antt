@@ -1,0 +1,42 @@
+-- The commands: which one the words are, by the first of them, and what it comes to. For now there are two.
+use Rattle.std.specs.Prelude.{ℕ, if◌then◌else◌, List, [], ◌∷◌, codes, Option, Some, None}
+use Rattle.std.specs.Option.{option_map}
+use Rattle.std.specs.Str.{bytes_eq}
+use Rattle.sst_cli.specs.Behaviour.{Behaviour}
+use Rattle.sst_cli.specs.CallsCommand.{calls_command}
+use Rattle.sst_cli.specs.NoCommand.{no_command}
+use Rattle.sst_cli.specs.Words.{WriteLine, write_line, calls_name}
+use Rattle.sst_cli.specs.WriteCommand.{write_command}
+use Rattle.sst_cli.specs.declared.command.Command as code
+
+-- a command: a `write` with its file and options, or a `calls` with its file
+-- Pinned by: a_command_is_by_its_words
+pub data Command : Type 0 where
+  Write : WriteLine → Command
+  Calls : List ℕ → Command
+
+-- the command that the code has
+-- Pinned by: run.ends
+abbrev pub seen : code.Command → Command
+seen (code.TheVariants.Write line) = Write (record { name = line.name.now; options = line.options })
+seen (code.TheVariants.Calls name) = Calls name.now
+
+-- the command that words with this first one are; nothing where they are none
+-- Pinned by: a_command_is_by_its_words
+abbrev pub command_by : List ℕ → List (List ℕ) → Option Command
+command_by first words =
+    if bytes_eq first (codes "write") then option_map Write (write_line words)
+    else if bytes_eq first (codes "calls") then option_map Calls (calls_name words) else None
+
+-- the command that the words are; nothing where they are none
+-- Pinned by: a_command_is_by_its_words, words_that_are_no_command
+abbrev pub command_of : List (List ℕ) → Option Command
+command_of [] = None
+command_of (first ∷ rest) = command_by first (first ∷ rest)
+
+-- what a command comes to, and what words that are none come to
+-- Pinned by: run.ends
+abbrev pub behaviour : Option Command → Behaviour
+behaviour None = no_command
+behaviour (Some (Write line)) = write_command line
+behaviour (Some (Calls name)) = calls_command name

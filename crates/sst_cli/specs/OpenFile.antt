@@ -1,0 +1,57 @@
+-- A command that opens a file and prints something of it: what the file may be found as, and what is answered then.
+use Rattle.std.specs.Prelude.{◌≡◌, ℕ, List, [], ◌++◌, Option, Err, IsTrue}
+use Rattle.sst_bbt_spec.specs.BlockBased.{Opens}
+use Rattle.sst_bbt_spec.specs.Way.{IndexedBlock}
+use Rattle.sst_bbt_read.specs.FaultText.{fault_text}
+use Rattle.sst_bbt_read.specs.Opening.{blocks_read}
+use Rattle.sst_bbt_read.specs.declared.bbt_fault.BbtFault.{BbtFault}
+use Rattle.sst_device.specs.Folder.{Files, misses}
+use Rattle.sst_cli.specs.Behaviour.{Told, Outcome, Behaviour, FileIs}
+use Rattle.sst_cli.specs.declared.status.Status.TheVariants.{Done, File, Device}
+
+-- what a file may be found as: the folder tells that it isn't there; this fault is the first thing that is wrong with
+-- it; it opens to these data blocks
+-- Pinned by: run.ends
+pub data OpenFile : Type 0 where
+  Absent : OpenFile
+  Damaged : BbtFault → OpenFile
+  Opened : List IndexedBlock → OpenFile
+
+-- where the folder tells its files, the named one is found so
+-- Pinned by: what_calls_come_to.answered, what_calls_come_to.damaged, what_calls_come_to.absent
+abbrev pub IsOpenFile : Option Files → List ℕ → OpenFile → Type 0
+IsOpenFile held name Absent = IsTrue (misses held name 0)
+IsOpenFile held name (Damaged fault) = FileIs held name (λ file. blocks_read file ≡ Err fault)
+IsOpenFile held name (Opened blocks) = FileIs held name (λ file. Opens file blocks)
+
+-- the command did all, and this is its text
+-- Pinned by: what_calls_come_to.answered
+abbrev pub done_with : List ℕ → Outcome
+done_with text = record { status = Done; text = text }
+
+-- a fault ended the text: so much of it comes before, and then the line of the fault
+-- Pinned by: what_calls_come_to.damaged
+abbrev pub cut_by : List ℕ → BbtFault → Outcome
+cut_by text fault = record { status = File; text = text ++ fault_text fault }
+
+-- what is answered of a file, by what is answered of the data blocks to which it opens. Of one that isn't there nothing is
+-- printed.
+-- Pinned by: what_calls_come_to.damaged, what_calls_come_to.absent
+abbrev pub file_outcome : (List IndexedBlock → Outcome) → OpenFile → Outcome
+file_outcome answer Absent = record { status = Device; text = [] }
+file_outcome answer (Damaged fault) = cut_by [] fault
+file_outcome answer (Opened blocks) = answer blocks
+
+-- the command that opens the named file and answers so of its data blocks; it changes nothing and takes no input
+-- Pinned by: run.ends
+abbrev pub on_file : List ℕ → (List IndexedBlock → Outcome) → Behaviour
+on_file name answer =
+    record {
+      Found = OpenFile;
+      IsFound = λ told file. IsOpenFile told.held name file;
+      outcome = file_outcome answer;
+      Leaves = λ file before after. (after.held ≡ before.held) × (after.left ≡ before.left);
+      MayChange = λ old new. new ≡ old;
+      SparesFolder = λ told status. ⊥;
+      SparesInput = λ told status. Unit {0};
+    }

@@ -1,0 +1,162 @@
+//! Laws of runs: what follows from how a command ends, for each command in its own words.
+ghost use Rattle.std.specs.Prelude.{◌≡◌, ◌≢◌, ◌⊎◌, ℕ, List, [], Option, Some, None, Ok, Err, IsTrue};
+ghost use Rattle.std.specs.Io.KnownBytes.{append_known};
+ghost use Rattle.sst_key.specs.declared.calls.Call.{Call};
+ghost use Rattle.sst_key.specs.declared.entries.Entry.{Entry};
+ghost use Rattle.sst_device.specs.Folder.{Files, file_of, misses, put_file};
+ghost use Rattle.sst_text.specs.Taken.{IsTakenTo};
+ghost use Rattle.sst_bbt_spec.specs.BlockBased.{BlockBased, Opens};
+ghost use Rattle.sst_bbt_spec.specs.Way.{IndexedBlock};
+ghost use Rattle.sst_bbt_read.specs.Opening.{blocks_read};
+ghost use Rattle.sst_bbt_read.specs.declared.bbt_fault.BbtFault.{BbtFault};
+ghost use Rattle.sst_cli.specs.Behaviour.{Behaviour, Ends, IsFault, MayPrint, World, tells};
+ghost use Rattle.sst_cli.specs.CallsCommand.{Answered, AnsweredByWay, IsDamaged, calls_command};
+ghost use Rattle.sst_cli.specs.Command.{Command, behaviour, command_of};
+ghost use Rattle.sst_cli.specs.NoCommand.{no_command, usage_text};
+ghost use Rattle.sst_cli.specs.Reading.{read_calls, read_input};
+ghost use Rattle.sst_cli.specs.Refusals.{refusal_text};
+ghost use Rattle.sst_cli.specs.Words as line;
+ghost use Rattle.sst_cli.specs.Words.{WriteLine};
+ghost use Rattle.sst_cli.specs.WriteCommand.{Wrote, write_command};
+ghost use Rattle.sst_cli.specs.declared.input.refusal.Refusal.{Refusal};
+ghost use Rattle.sst_cli.specs.declared.status.Status.{Status};
+ghost use Rattle.sst_cli.specs.declared.status.Status.TheVariants as ends_with;
+
+/// Words are a command exactly where they are one by their places.
+///
+/// `write` and `calls`: words that are a `write` are that command, and no other, and so of `calls`. `none`: words that are no
+/// command are neither. The words are this project's own.
+pub fn a_command_is_by_its_words()
+    ensures write { (words : List (List ℕ)) (write : WriteLine) → line.write_line words ≡ Some write → command_of words ≡ Some (Command.Write write) }
+    ensures calls { (words : List (List ℕ)) (name : List ℕ) → line.calls_name words ≡ Some name → command_of words ≡ Some (Command.Calls name) }
+    ensures is_write { (words : List (List ℕ)) (write : WriteLine) → command_of words ≡ Some (Command.Write write) → line.write_line words ≡ Some write }
+    ensures is_calls { (words : List (List ℕ)) (name : List ℕ) → command_of words ≡ Some (Command.Calls name) → line.calls_name words ≡ Some name }
+    ensures none { (words : List (List ℕ)) → command_of words ≡ None → (line.out_name words ≡ None) × (line.calls_name words ≡ None) }
+    ensures neither { (words : List (List ℕ)) → line.out_name words ≡ None → line.calls_name words ≡ None → command_of words ≡ None }
+{}
+
+/// Where the folder and the input are told, whatever a command may find there has one outcome.
+///
+/// So "the status goes with something that the command may find" says which status it is, and the same of the text. `some`:
+/// there is always something to find. This is this project's own.
+pub fn a_told_world_has_one_outcome()
+    ensures one { (command : Option Command) (files : Files) (text : List ℕ) (found other : (behaviour command).Found)
+        → (behaviour command).IsFound (tells (Some files) (Some text)) found
+        → (behaviour command).IsFound (tells (Some files) (Some text)) other
+        → (behaviour command).outcome found ≡ (behaviour command).outcome other }
+    ensures some { (command : Option Command) (files : Files) (text : List ℕ) → (found : (behaviour command).Found)
+        × (behaviour command).IsFound (tells (Some files) (Some text)) found }
+{}
+
+/// What a run of any command comes to.
+///
+/// `usage`: words that are no command: their whole text is printed. `usage_only`: no other words have that status.
+/// `whole`: where there was no fault, the whole text is printed. `never`: no run tries hash functions, for now. The statuses and
+/// the texts are this project's own.
+pub fn what_a_run_comes_to()
+    ensures usage { (before after : World) (status : Status) → Ends no_command before after status
+        → IsFault status ⊎ ((status ≡ ends_with.Usage) × (after.written ≡ append_known before.written usage_text)) }
+    ensures usage_only { (command : Option Command) (before after : World) (status : Status) → Ends (behaviour command) before after status
+        → status ≡ ends_with.Usage → command ≡ None }
+    ensures whole { (command : Option Command) (before after : World) (status : Status) → Ends (behaviour command) before after status
+        → status ≢ ends_with.Device → status ≢ ends_with.Memory
+        → (text : List ℕ) × MayPrint (behaviour command) before.told text × (after.written ≡ append_known before.written text) }
+    ensures never { (command : Option Command) (before after : World) (status : Status) → Ends (behaviour command) before after status
+        → status ≢ ends_with.Exhausted }
+{}
+
+/// What a `write` comes to.
+///
+/// `written`: a text that says a list, in whatever spelling, is written. `refused`, `near`: of an input that is refused the whole
+/// text is printed, and at most a piece past the refused line is taken. `done`: a run that ends with Done has written what its
+/// input says. `input_only`, `begun`: with Input the input is refused, and no file but OUT has changed. `statuses`: there are no
+/// others. The statuses and the texts are this project's own.
+pub fn what_a_write_comes_to()
+    ensures written { (write : WriteLine) (before after : World) (status : Status) (text : List ℕ) (entries : List Entry)
+        → Ends (write_command write) before after status
+        → before.told.left ≡ Some text → read_input text ≡ Ok entries
+        → IsFault status ⊎ Wrote status write entries before.told.held after.told.held after.told.left before.written after.written }
+    ensures refused { (write : WriteLine) (before after : World) (status : Status) (text : List ℕ) (refusal : Refusal)
+        → Ends (write_command write) before after status
+        → before.told.left ≡ Some text → read_input text ≡ Err refusal
+        → IsFault status ⊎ ((status ≡ ends_with.Input) × (after.written ≡ append_known before.written (refusal_text refusal))) }
+    ensures near { (write : WriteLine) (before after : World) (status : Status) (text : List ℕ) (refusal : Refusal)
+        → Ends (write_command write) before after status
+        → before.told.left ≡ Some text → read_input text ≡ Err refusal → status ≡ ends_with.Input
+        → IsTakenTo refusal.line text after.told.left }
+    ensures done { (write : WriteLine) (before after : World) (status : Status) (text : List ℕ)
+        → Ends (write_command write) before after status
+        → status ≡ ends_with.Done → before.told.left ≡ Some text
+        → (entries : List Entry) × (read_input text ≡ Ok entries)
+        × Wrote status write entries before.told.held after.told.held after.told.left before.written after.written }
+    ensures input_only { (write : WriteLine) (before after : World) (status : Status) (text : List ℕ)
+        → Ends (write_command write) before after status
+        → status ≡ ends_with.Input → before.told.left ≡ Some text → (refusal : Refusal) × (read_input text ≡ Err refusal) }
+    ensures begun { (write : WriteLine) (before after : World) (status : Status) → Ends (write_command write) before after status
+        → status ≡ ends_with.Input
+        → (bytes : List ℕ) × (after.told.held ≡ put_file before.told.held write.name bytes) }
+    ensures statuses { (write : WriteLine) (before after : World) (status : Status) → Ends (write_command write) before after status
+        → (status ≡ ends_with.Done) ⊎ ((status ≡ ends_with.Input) ⊎ IsFault status) }
+{}
+
+/// What a `calls` comes to.
+///
+/// `answered_as_list`: on a file that stands for a list each text that says calls, in whatever spelling, is answered as the
+/// list answers. `answered`: on a file that opens, whatever its separators, by the way of its blocks. `damaged`: of a file that
+/// doesn't open the first thing that is wrong is printed, and the file shows it. `refused`, `near`: of an input that is
+/// refused, whatever the file, the whole text is printed, and at most a piece past the refused line is taken. `absent`,
+/// `prints_nothing`: of a file that isn't there, after the refusals of the input, nothing is printed. `done`, `done_only`,
+/// `read_to_its_end`: a run that ends with Done has answered, its file opens, and its input is read to its end. `input_only`,
+/// `file_only`: what the two statuses say. `statuses`: there are no others. The statuses and the texts are this
+/// project's own.
+pub fn what_calls_come_to()
+    ensures answered_as_list { (name : List ℕ) (before after : World) (status : Status) (file text : List ℕ) (entries : List Entry) (calls : List Call)
+        → Ends (calls_command name) before after status
+        → file_of before.told.held name ≡ Some file → BlockBased file entries
+        → before.told.left ≡ Some text → read_calls text ≡ Ok calls
+        → IsFault status ⊎ Answered status entries calls before.told.held after.told.held after.told.left before.written after.written }
+    ensures answered { (name : List ℕ) (before after : World) (status : Status) (file text : List ℕ) (blocks : List IndexedBlock) (calls : List Call)
+        → Ends (calls_command name) before after status
+        → Opens file blocks → file_of before.told.held name ≡ Some file
+        → before.told.left ≡ Some text → read_calls text ≡ Ok calls
+        → IsFault status ⊎ AnsweredByWay status blocks calls before.told.held after.told.held after.told.left before.written after.written }
+    ensures damaged { (name : List ℕ) (before after : World) (status : Status) (file text : List ℕ) (calls : List Call)
+        → Ends (calls_command name) before after status
+        → file_of before.told.held name ≡ Some file → ((blocks : List IndexedBlock) → Opens file blocks → ⊥)
+        → before.told.left ≡ Some text → read_calls text ≡ Ok calls
+        → IsFault status ⊎ IsDamaged status file after.told.left before.written after.written }
+    ensures refused { (name : List ℕ) (before after : World) (status : Status) (text : List ℕ) (refusal : Refusal)
+        → Ends (calls_command name) before after status
+        → before.told.left ≡ Some text → read_calls text ≡ Err refusal
+        → IsFault status ⊎ ((status ≡ ends_with.Input) × (after.written ≡ append_known before.written (refusal_text refusal))) }
+    ensures near { (name : List ℕ) (before after : World) (status : Status) (text : List ℕ) (refusal : Refusal)
+        → Ends (calls_command name) before after status
+        → before.told.left ≡ Some text → read_calls text ≡ Err refusal → status ≡ ends_with.Input
+        → IsTakenTo refusal.line text after.told.left }
+    ensures absent { (name : List ℕ) (before after : World) (status : Status) → Ends (calls_command name) before after status
+        → IsTrue (misses before.told.held name 0) → (status ≡ ends_with.Input) ⊎ IsFault status }
+    ensures prints_nothing { (name : List ℕ) (before after : World) (status : Status) (text : List ℕ) (calls : List Call)
+        → Ends (calls_command name) before after status
+        → IsTrue (misses before.told.held name 0) → before.told.left ≡ Some text → read_calls text ≡ Ok calls
+        → after.written ≡ before.written }
+    ensures done { (name : List ℕ) (before after : World) (status : Status) (file text : List ℕ)
+        → Ends (calls_command name) before after status
+        → status ≡ ends_with.Done → file_of before.told.held name ≡ Some file → before.told.left ≡ Some text
+        → (blocks : List IndexedBlock) × (calls : List Call) × Opens file blocks × (read_calls text ≡ Ok calls)
+        × AnsweredByWay status blocks calls before.told.held after.told.held after.told.left before.written after.written }
+    ensures done_only { (name : List ℕ) (before after : World) (status : Status) (file : List ℕ)
+        → Ends (calls_command name) before after status
+        → status ≡ ends_with.Done → file_of before.told.held name ≡ Some file → (blocks : List IndexedBlock) × Opens file blocks }
+    ensures read_to_its_end { (name : List ℕ) (before after : World) (status : Status) (text : List ℕ)
+        → Ends (calls_command name) before after status
+        → (status ≡ ends_with.Done) ⊎ (status ≡ ends_with.File) → before.told.left ≡ Some text
+        → ((calls : List Call) × (read_calls text ≡ Ok calls)) × (after.told.left ≡ Some []) }
+    ensures input_only { (name : List ℕ) (before after : World) (status : Status) (text : List ℕ)
+        → Ends (calls_command name) before after status
+        → status ≡ ends_with.Input → before.told.left ≡ Some text → (refusal : Refusal) × (read_calls text ≡ Err refusal) }
+    ensures file_only { (command : Option Command) (before after : World) (status : Status) → Ends (behaviour command) before after status
+        → status ≡ ends_with.File → (name : List ℕ) × (command ≡ Some (Command.Calls name))
+        × ((file : List ℕ) → file_of before.told.held name ≡ Some file → (fault : BbtFault) × (blocks_read file ≡ Err fault)) }
+    ensures statuses { (name : List ℕ) (before after : World) (status : Status) → Ends (calls_command name) before after status
+        → (status ≡ ends_with.Done) ⊎ ((status ≡ ends_with.Input) ⊎ ((status ≡ ends_with.File) ⊎ IsFault status)) }
+{}
