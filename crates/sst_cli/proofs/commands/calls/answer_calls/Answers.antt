@@ -11,9 +11,9 @@ use Rattle.sst_cli.proofs.commands.calls.answer_calls.Goals as goal
 pub returns-in-Ok : goal.returns-in-Ok
 returns-in-Ok g c = λ left intake.
     let is = file_opens (g.F.Folder.held c.args.files.now) c.args.name.now c.open.result c.in-Ok.reader c.in-Ok.is (rw (sym c.reader.view_is) c.reader.invariant) c.open.ensures.absent c.in-Ok.ensures.told in
-    let quiet = with_ok c.open.result c.in-Ok.reader stop.Device _ c.in-Ok.is c.open.ensures.hides_none in
+    let quiet = with_ok c.open.result c.in-Ok.reader stop.Device _ c.in-Ok.is c.open.ensures.folder.hides_none in
     carries-printed (on_file c.args.name.now (answers_of c.args.calls.now)) (Opened (blocks_of c.in-Ok.reader)) _ _ c.print_all.result _ _ is
-    (c.open.ensures.same_files, refl) c.open.ensures.same_files (λ none. absurd none) (λ spared. tt) quiet refl c.print_all.ensures
+    (c.open.ensures.folder.same_files, refl) c.open.ensures.folder.same_files (λ none. absurd none) (λ spared. tt) quiet refl c.print_all.ensures
 
 pub returns-in-Err-Damage : goal.returns-in-Err-Damage
 returns-in-Err-Damage g c = λ left intake.
@@ -21,6 +21,6 @@ returns-in-Err-Damage g c = λ left intake.
     let told = rw c.in-Err-Damage.field-0-is at c.in-Err-Damage.is in
     let reads = rw c.in-Err-Damage.field-0-is at c.in-Err-Damage.ensures.told in
     let is = file_damaged (g.F.Folder.held c.args.files.now) c.args.name.now c.open.result fault told c.open.ensures.absent reads in
-    let quiet = with_err c.open.result (stop.Damage fault) stop.Device _ told (λ e. cc) c.open.ensures.hides_none in
+    let quiet = with_err c.open.result (stop.Damage fault) stop.Device _ told (λ e. cc) c.open.ensures.folder.hides_none in
     carries-printed (on_file c.args.name.now (answers_of c.args.calls.now)) (Damaged fault) _ _ c.print_fault.result _ _ is
-    (c.open.ensures.same_files, refl) c.open.ensures.same_files (λ none. absurd none) (λ spared. tt) quiet refl c.print_fault.ensures
+    (c.open.ensures.folder.same_files, refl) c.open.ensures.folder.same_files (λ none. absurd none) (λ spared. tt) quiet refl c.print_fault.ensures
