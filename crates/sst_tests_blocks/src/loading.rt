@@ -6,7 +6,9 @@
 use sst_block::BlockFault;
 use sst_device::{FrameFault, MemFolder, put_frame};
 use sst_key::Format;
-use sst_meta::{Footer, Loaded, MetaFault, Name, PropsBuilder, load, names, put_footer};
+use sst_meta::{
+    Footer, Loaded, MetaFault, MetaRow, MetaValue, Name, load, names, put_ending, put_footer,
+};
 use sst_num::{Handle, Stop, put_fixed32, put_handle, put_varint64};
 use std::alloc::Global;
 use std::process::Abort;
@@ -14,9 +16,6 @@ use std::test::Fail;
 
 /// The name of the file.
 const NAME: &str = "table";
-
-/// The last eight bytes of a block-based file.
-const MAGIC: [u8; 8] = [0xf7, 0xcf, 0xf4, 0x85, 0xb7, 0x41, 0xe2, 0x88];
 
 /// The index, which isn't looked at.
 const INDEX: Handle = Handle { offset: 0, size: 0 };
@@ -53,15 +52,16 @@ fn put_pairs(out: &mut Vec<u8>, alloc: Global, pairs: Pairs) -> Result<Handle, F
 }
 
 /// Appends a footer of version 4 that leads to this metaindex.
-fn put_end(out: &mut Vec<u8>, alloc: Global, meta: Handle) -> Result<(), Fail> {
-    let mut end = Vec::new(alloc);
-    end.push(1)?;
-    put_handle(&mut end, meta)?;
-    put_handle(&mut end, INDEX)?;
-    end.resize(41, 0)?;
-    put_fixed32(&mut end, 4)?;
-    end.extend_from_slice(&MAGIC)?;
-    out.extend_from_slice(&end)?;
+fn put_end(out: &mut Vec<u8>, meta: Handle) -> Result<(), Fail> {
+    let footer = Footer {
+        format: Format::Block,
+        legacy: false,
+        version: 4,
+        checksum: 1,
+        meta,
+        index: INDEX,
+    };
+    put_footer(out, &footer)?;
     Ok(())
 }
 
@@ -69,7 +69,7 @@ fn put_end(out: &mut Vec<u8>, alloc: Global, meta: Handle) -> Result<(), Fail> {
 fn file_at(alloc: Global, block: &[u8]) -> Result<Vec<u8>, Fail> {
     let mut out = Vec::new(alloc);
     let meta = put_block(&mut out, block)?;
-    put_end(&mut out, alloc, meta)?;
+    put_end(&mut out, meta)?;
     Ok(out)
 }
 
@@ -77,7 +77,7 @@ fn file_at(alloc: Global, block: &[u8]) -> Result<Vec<u8>, Fail> {
 fn file_of(alloc: Global, pairs: Pairs) -> Result<Vec<u8>, Fail> {
     let mut out = Vec::new(alloc);
     let meta = put_pairs(&mut out, alloc, pairs)?;
-    put_end(&mut out, alloc, meta)?;
+    put_end(&mut out, meta)?;
     Ok(out)
 }
 
@@ -88,7 +88,7 @@ fn file_with(alloc: Global, props: Pairs) -> Result<Vec<u8>, Fail> {
     let mut value = Vec::new(alloc);
     put_handle(&mut value, at)?;
     let meta = put_pairs(&mut out, alloc, &[(names::PROPERTIES, value.as_slice())])?;
-    put_end(&mut out, alloc, meta)?;
+    put_end(&mut out, meta)?;
     Ok(out)
 }
 
@@ -179,11 +179,11 @@ static METAINDEXES: [(&[u8], MetaFault); 2] = [
 #[test]
 fn a_metaindex_that_is_a_fault(rt: HostRuntime) -> Result<(), Fail> {
     let mut file = Vec::new(rt.alloc());
-    put_end(&mut file, rt.alloc(), INDEX)?;
+    put_end(&mut file, INDEX)?;
     let fault = MetaFault::Frame(FrameFault::OutOfFile(INDEX));
     assert_fault(&rt, rt.alloc(), &file, fault)?;
     let mut file = vec![in rt.alloc(); 2; 13]?;
-    put_end(&mut file, rt.alloc(), FIRST)?;
+    put_end(&mut file, FIRST)?;
     let fault = MetaFault::Frame(FrameFault::Checksum(FIRST));
     assert_fault(&rt, rt.alloc(), &file, fault)?;
     for (block, fault) in METAINDEXES {
@@ -645,36 +645,33 @@ fn a_failing_device(rt: HostRuntime) -> Result<(), Fail> {
     Ok(())
 }
 
-/// Appends the properties block of a builder, a metaindex that leads to it, and a footer, which it answers.
-fn put_ending(out: &mut Vec<u8>, alloc: Global) -> Result<Footer, Fail> {
-    let mut builder = PropsBuilder::new(alloc)?;
-    builder.set(names::NUM_ENTRIES, b"\x11")?;
-    let block = builder.finish()?;
-    let at = put_block(out, block.as_slice())?;
-    let mut value = Vec::new(alloc);
-    put_handle(&mut value, at)?;
-    let meta = put_pairs(out, alloc, &[(names::PROPERTIES, value.as_slice())])?;
-    let footer = Footer {
-        format: Format::Block,
-        legacy: false,
-        version: 3,
-        checksum: 1,
-        meta,
-        index: INDEX,
-    };
-    put_footer(out, &footer)?;
-    Ok(footer)
-}
+/// The footer of a file of nine bytes and an end of version 3: the stored properties block of 31 bytes stands before the
+/// metaindex.
+const WHAT_WAS_PUT: Footer = Footer {
+    format: Format::Block,
+    legacy: false,
+    version: 3,
+    checksum: 1,
+    meta: Handle {
+        offset: 45,
+        size: 31,
+    },
+    index: INDEX,
+};
 
-// What a builder and `put_footer` make is loaded again, here behind nine bytes.
+// What `put_ending` makes is loaded again, here behind nine bytes.
 #[test]
 fn what_was_put(rt: HostRuntime) -> Result<(), Fail> {
     let mut file = Vec::new(rt.alloc());
     file.extend_from_slice(b"the front")?;
-    let footer = put_ending(&mut file, rt.alloc())?;
+    let row = MetaRow {
+        name: names::NUM_ENTRIES,
+        value: MetaValue::Varint(17),
+    };
+    put_ending(rt.alloc(), &mut file, 9, 3, INDEX, &[row])?;
     let loaded = load_of(rt.alloc(), &file)??;
     assert_eq!(rt; loaded.len, file.len() as u64);
-    assert_eq!(rt; loaded.footer, footer);
+    assert_eq!(rt; loaded.footer, WHAT_WAS_PUT);
     assert_eq!(rt; loaded.names.len(), 1);
     match &loaded.props {
         Some(props) => { assert_eq!(rt; props.get(names::NUM_ENTRIES), Some(b"\x11".as_slice())) }

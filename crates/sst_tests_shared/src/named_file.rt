@@ -2,13 +2,15 @@
 //!
 //! Each begins with the data block of 21 bytes at 0 and the index of 22 at 26. The block of properties stands at 53, the
 //! metaindex behind it, and then the footer. No name shares bytes with the one before it, and the first alone stands at
-//! a restart point. Blocks are stored by [`sst_device::put_frame`], whose checksums the tests of sst_device hold against
-//! worked ones.
+//! a restart point, as another writer than this library's may make them. Blocks are stored by [`sst_device::put_frame`]
+//! and footers put by [`sst_meta::put_footer`], whose bytes the tests of blocks hold against worked ones.
 //!
 //! RocksDB: `PropertyBlockBuilder` and `MetaIndexBuilder` in table/meta_blocks.cc.
-use crate::small_file::{DATA, INDEX, MAGIC, ONE_RESTART, VERSION};
+use crate::small_file::{DATA, INDEX, ONE_RESTART};
 use crate::worked_run::put_hex;
 use sst_device::put_frame;
+use sst_key::Format;
+use sst_meta::{Footer, put_footer};
 use sst_num::{Handle, put_handle};
 use std::alloc::Global;
 use std::test::Fail;
@@ -63,26 +65,28 @@ pub fn names_block(alloc: Global, pairs: &[(&str, &str)]) -> Result<Vec<u8>, Fai
     Ok(block)
 }
 
-/// Appends a footer that leads to this metaindex.
-fn put_end(alloc: Global, file: &mut Vec<u8>, metaindex: Handle) -> Result<(), Fail> {
-    let mut front = Vec::new(alloc);
-    front.push(1)?;
-    put_handle(&mut front, metaindex)?;
-    put_handle(&mut front, INDEX_HANDLE)?;
-    let zeros = vec![in alloc; 0; 41usize.saturating_sub(front.len())]?;
-    file.extend_from_slice(&front)?;
-    file.extend_from_slice(&zeros)?;
-    put_hex(alloc, file, &[VERSION, MAGIC])
+/// Appends a footer of version 2 that leads to this metaindex.
+fn put_end(file: &mut Vec<u8>, metaindex: Handle) -> Result<(), Fail> {
+    let footer = Footer {
+        format: Format::Block,
+        legacy: false,
+        version: 2,
+        checksum: 1,
+        meta: metaindex,
+        index: INDEX_HANDLE,
+    };
+    put_footer(file, &footer)?;
+    Ok(())
 }
 
 /// Appends a metaindex with these rows, told as a block, and a footer that leads to it.
-fn put_metaindex(alloc: Global, file: &mut Vec<u8>, block: &[u8]) -> Result<(), Fail> {
+fn put_metaindex(file: &mut Vec<u8>, block: &[u8]) -> Result<(), Fail> {
     let metaindex = Handle {
         offset: file.len() as u64,
         size: block.len() as u64,
     };
     put_frame(file, block)?;
-    put_end(alloc, file, metaindex)
+    put_end(file, metaindex)
 }
 
 /// Appends a block of properties, the metaindex that leads to it, and the footer.
@@ -101,7 +105,7 @@ fn put_named(alloc: Global, file: &mut Vec<u8>, block: &[u8]) -> Result<(), Fail
     metaindex.extend_from_slice(PROPERTIES.as_bytes())?;
     metaindex.extend_from_slice(&value)?;
     put_hex(alloc, &mut metaindex, &[ONE_RESTART])?;
-    put_metaindex(alloc, file, &metaindex)
+    put_metaindex(file, &metaindex)
 }
 
 /// The file with these properties.
@@ -138,6 +142,6 @@ pub fn file_with_names(alloc: Global, pairs: &[(&str, &str)]) -> Result<Vec<u8>,
     let mut file = Vec::new(alloc);
     put_hex(alloc, &mut file, &[DATA, INDEX])?;
     put_frame(&mut file, &names_block(alloc, &[])?)?;
-    put_metaindex(alloc, &mut file, &names_block(alloc, pairs)?)?;
+    put_metaindex(&mut file, &names_block(alloc, pairs)?)?;
     Ok(file)
 }
