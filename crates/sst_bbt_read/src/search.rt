@@ -12,12 +12,9 @@ ghost use Rattle.sst_key.specs.ListMachine as machine;
 ghost use Rattle.sst_bbt_read.specs.declared.bbt_reader.BlockEnd as ends;
 
 use crate::bbt_reader::BlockEnd;
-use sst_key::{Entry, target_cmp};
+use sst_key::{Entry, TAG_LENGTH, target_cmp};
 use sst_num::fixed64;
 use std::cmp::Ordering;
-
-/// How many bytes of a stored key are its tag.
-const TAG_LENGTH: usize = 8;
 
 /// The user key and the tag of a stored key.
 ///

@@ -1,3 +1,4 @@
+//! The builder of a block.
 ghost use Rattle.std.specs.Prelude.{◌≡◌, ℕ, ◌<◌, ◌≤◌, ◌^◌, ◌++◌, false, List, [], ◌∷◌, length, take, IfOk, OnOk, OnErr};
 ghost use Rattle.std.specs.Result.{IsErr};
 ghost use Rattle.sst_block.specs.Block.{Row, Block, common, row_spelling};

@@ -1,3 +1,4 @@
+//! Checks a block: the number of its rows, or its first fault.
 ghost use Rattle.std.specs.Prelude.{◌≡◌, ℕ, ◌+◌, ◌*◌, ◌<◌, ◌≤◌, ◌^◌, List, [], length, take, drop, Some, IfSome, Err, IfOk};
 ghost use Rattle.sst_block.specs.Block.{Row, Block};
 ghost use Rattle.sst_block.specs.FirstFault.{IsFirstFault};

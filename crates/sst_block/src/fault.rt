@@ -1,3 +1,5 @@
+//! What can be wrong with the bytes of a block.
+
 /// What is wrong with the bytes of a block.
 ///
 /// A place is where the row begins in the block, in bytes; of a restart it is the restart's number, from 0.

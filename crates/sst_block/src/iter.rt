@@ -1,3 +1,4 @@
+//! The walk over the rows of a block.
 ghost use Rattle.std.specs.Prelude.{◌≡◌, ℕ, ◌+◌, nat_lt, true, false, List, [], ◌∷◌, length, Option, None, Some, slice_get};
 ghost use Rattle.sst_block.specs.Block.{Row, Block};
 ghost use Rattle.sst_block.specs.Iter.{AreRows, Shows, Walks, place_of};

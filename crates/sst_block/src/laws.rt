@@ -1,3 +1,4 @@
+//! Laws: what a block stands for, what it reads as, and its first fault.
 ghost use Rattle.std.specs.Prelude.{◌≡◌, ℕ, ◌+◌, ◌%◌, ◌<◌, ◌≤◌, ◌^◌, List, [], length, map, slice_get, All, Some, Err};
 ghost use Rattle.sst_block.specs.Block.{Row, Spelled, Block, IsRow, AreOrdered, common};
 ghost use Rattle.sst_block.specs.Builder.{HasNoFlags};

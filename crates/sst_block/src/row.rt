@@ -1,3 +1,4 @@
+//! One row of a block: its lengths, its key and its value, and what can be wrong with them.
 ghost use Rattle.std.specs.Prelude.{◌≡◌, ◌⊎◌, ℕ, ◌+◌, ◌<◌, ◌≤◌, ◌^◌, true, false, List, [], ◌++◌, length, take, drop, IfSome, IfNone, IfOk, IfErr, Ok, Err, option_map};
 ghost use Rattle.sst_block.specs.Block as blocks;
 ghost use Rattle.sst_block.specs.Reading as reading;
@@ -6,15 +7,9 @@ ghost use Rattle.sst_block.specs.Rows.{numbers, spelled_lengths, key_held, row_l
 
 use crate::fault::BlockFault;
 use crate::row_form::RowForm;
-use sst_key::{KeyRoom, cmp_internal, unpack};
+use sst_key::{KeyRoom, LONGEST_KEY, TAG_LENGTH, cmp_internal, unpack};
 use sst_num::{take_handle, take_varint32};
 use std::cmp::Ordering;
-
-/// The longest key that a block may have: a user key of 65,536 bytes and a tag.
-const LONGEST_KEY: usize = 65_544;
-
-/// How many bytes of a stored key are its tag.
-const TAG_LENGTH: usize = 8;
 
 /// The three lengths that a row begins with, and how many bytes they take.
 #[derive(Clone, Copy)]

@@ -1,3 +1,5 @@
+//! What the rows of a block are.
+
 /// What the rows of a block are.
 #[derive(Clone, Copy, Debug, PartialEq, Eq)]
 pub enum RowForm {

@@ -12,15 +12,10 @@ ghost use Rattle.sst_device.specs.declared.frame.FrameFault.{FrameFault};
 ghost use Rattle.sst_num.specs.declared.stops.Stop.TheVariants as stop;
 
 use crate::folder::{DevStop, Folder};
-use crate::frame::{FrameFault, UNCOMPRESSED};
+use crate::frame::{FrameFault, TRAILER_LENGTH, UNCOMPRESSED};
 use sst_num::{Bytes, Handle, Stop, fixed32};
 use sst_sums::{crc32c, mask};
 use std::alloc::Global;
-
-/// How many bytes follow a block: its type byte, and its checksum.
-///
-/// RocksDB: `kBlockTrailerSize` in table/block_based/block_based_table_reader.h.
-const TRAILER_LENGTH: usize = 5;
 
 /// The most bytes of a block that is read.
 const BLOCK_LIMIT: u64 = 1 << 29;
@@ -87,7 +82,7 @@ pub fn draw_framed<F: Folder>(
     match early_fault(end, handle) {
         Some(fault) => Err(Stop::Damage(fault)),
         None => {
-            let len = handle.size as usize + TRAILER_LENGTH;
+            let len = handle.size as usize + TRAILER_LENGTH as usize;
             let stored = draw(alloc, files, name, handle.offset, len)?;
             match open_frame(stored, handle) {
                 Ok(block) => Ok(block),
@@ -105,7 +100,7 @@ fn frame_end(handle: Handle) -> Option<u64>
     handle
         .offset
         .checked_add(handle.size)?
-        .checked_add(TRAILER_LENGTH as u64)
+        .checked_add(TRAILER_LENGTH)
 }
 
 /// Whether the block or its trailer passes the end.

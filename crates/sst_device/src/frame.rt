@@ -10,6 +10,11 @@ use sst_sums::{crc32c, mask};
 /// RocksDB: `kNoCompression` in include/rocksdb/compression_type.h.
 pub(crate) const UNCOMPRESSED: u8 = 0;
 
+/// How many bytes follow a stored block: its type byte, and its checksum.
+///
+/// RocksDB: `kBlockTrailerSize` in table/block_based/block_based_table_reader.h.
+pub const TRAILER_LENGTH: u64 = 5;
+
 /// Why the block at a handle can't be had.
 ///
 /// RocksDB: `BlockFetcher` in table/block_fetcher.cc answers `Status::Corruption` or decompresses.

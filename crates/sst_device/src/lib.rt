@@ -87,7 +87,7 @@ mod stream;
 
 pub use drawing::{draw, draw_framed};
 pub use folder::{DevStop, Failed, Folder};
-pub use frame::{FrameFault, put_frame};
+pub use frame::{FrameFault, TRAILER_LENGTH, put_frame};
 pub use laws::{
     a_block_without_a_trailer_is_bare, a_frame_fault_is_the_first, a_stored_block_is_read,
     frame_is_framed, one_file_changes,

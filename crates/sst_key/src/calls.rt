@@ -1,3 +1,4 @@
+//! Calls, and what they are answered.
 use sst_num::Bytes;
 
 /// A user key and the sequence number of a snapshot.

@@ -1,3 +1,4 @@
+//! Entries of a table, owned and lent.
 use sst_num::Bytes;
 
 /// What an entry says of its user key.

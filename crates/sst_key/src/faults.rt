@@ -1,3 +1,5 @@
+//! Why a writer refuses an entry.
+
 /// Why a writer refuses an entry. The causes are checked in this order. The last three are not given yet.
 #[derive(Clone, Copy, Debug, PartialEq, Eq)]
 pub enum WriteFault {

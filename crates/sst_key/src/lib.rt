@@ -76,7 +76,7 @@ mod room;
 pub use calls::{Answer, Call, Format, Reply, Target};
 pub use entries::{Entry, EntryView, Kind};
 pub use faults::WriteFault;
-pub use keys::{cmp_internal, internal_order_is_entry_order, pack};
+pub use keys::{TAG_LENGTH, cmp_internal, internal_order_is_entry_order, pack};
 pub use list_laws::{
     first_and_next_go_through, get_shows_the_newest, last_and_prev_go_back,
     seek_for_prev_lands_on_the_last_up_to, seek_lands_on_the_first_not_before,
@@ -84,4 +84,4 @@ pub use list_laws::{
 };
 pub use list_machine::{answer, target_cmp};
 pub use reading::{packed_is_unpacked, unpack};
-pub use room::KeyRoom;
+pub use room::{KeyRoom, LONGEST_KEY};

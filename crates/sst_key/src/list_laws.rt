@@ -1,3 +1,4 @@
+//! Laws: what the calls over a list come to, in the words of their callers.
 ghost use Rattle.std.specs.Prelude.{◌≡◌, ℕ, ◌<◌, ◌≤◌, ◌↔◌, Option, Some, None, List, [], ◌∷◌, ◌++◌, length, map, replicate, reverse, false, slice_get, IsTrue, Contains, AllPairs};
 ghost use Rattle.sst_key.specs.Entry.{IsOrdered, tag};
 ghost use Rattle.sst_key.specs.ListMachine.{is_before_target, is_up_to_target, seek_of, seek_for_prev_of, seek_in, get_of, lacks, lands, replies_from, visible};

@@ -1,3 +1,4 @@
+//! What calls answer over a list of entries, by counting.
 ghost use Rattle.std.specs.Prelude.{◌≡◌};
 ghost use Rattle.sst_key.specs.ListMachine as machine;
 ghost use Rattle.sst_key.specs.ListMachine.{answer_of};

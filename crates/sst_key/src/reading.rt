@@ -1,3 +1,4 @@
+//! Stored keys, read: the user key, the sequence number and the kind.
 ghost use Rattle.std.specs.Prelude.{◌≡◌, ◌⊎◌, ℕ, ◌+◌, ◌<◌, ◌^◌, ◌↔◌, List, length, take, None, Some, IfSome, IfNone};
 ghost use Rattle.sst_num.specs.Spelling.{fixed, fixed_value};
 ghost use Rattle.sst_key.specs.Entry.{internal_key, key_of};
@@ -7,6 +8,7 @@ ghost use Rattle.sst_key.specs.declared.entries.Entry.{Entry};
 
 use crate::entries::Kind;
 use crate::keys::TAG_LENGTH;
+use sst_num::fixed64;
 
 /// The kind that a number stands for in a tag, if it stands for one.
 fn kind_numbered(number: u64) -> Option<Kind>
@@ -27,9 +29,7 @@ fn tag_spelled(last: &[u8]) -> u64
     ensures value { result ≡ fixed_value last.now }
     ensures spells { fixed 8 result ≡ last.now }
 {
-    u64::from_le_bytes([
-        last[0], last[1], last[2], last[3], last[4], last[5], last[6], last[7],
-    ])
+    fixed64(last)
 }
 
 /// Reads a stored key: how long its user key is, the sequence number and the kind. Takes no memory.

@@ -1,3 +1,4 @@
+//! Room for one stored key, used again for the next.
 ghost use Rattle.std.specs.Prelude.{◌≡◌, ℕ, ◌+◌, ◌≤◌, List, [], ◌++◌, length, take, IfOk};
 ghost use Rattle.std.specs.Vec.{vec_capacity};
 
@@ -5,8 +6,8 @@ use sst_num::Memory;
 use std::alloc::Global;
 use std::marker::Model;
 
-/// How many bytes a [`KeyRoom`] has: those of the longest user key and of a tag.
-const ROOM_LENGTH: usize = 65_544;
+/// How many bytes the longest stored key has, and each [`KeyRoom`]: those of the longest user key and of a tag.
+pub const LONGEST_KEY: usize = 65_544;
 
 /// Room for one internal key, which is used again for the next. Contracts see it as the key that it holds.
 ///
@@ -29,7 +30,7 @@ impl KeyRoom {
     pub fn new(alloc: Global) -> Result<KeyRoom, Memory>
         ensures { IfOk result (λ room. room ≡ []) }
     {
-        let key = Vec::with_capacity(alloc, ROOM_LENGTH)?;
+        let key = Vec::with_capacity(alloc, LONGEST_KEY)?;
         Ok(KeyRoom { key })
     }
 

@@ -1,3 +1,5 @@
+//! Block handles.
+
 /// Where a block stands in a file, in bytes.
 ///
 /// RocksDB: `BlockHandle` in table/format.h.

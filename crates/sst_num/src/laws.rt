@@ -1,3 +1,4 @@
+//! Laws: what is spelled reads back, and a number has one spelling.
 ghost use Rattle.std.specs.Prelude.{◌≡◌, ℕ, ◌<◌, ◌≤◌, ◌↔◌, ◌^◌, List, ◌++◌, length, Some};
 ghost use Rattle.sst_num.specs.Spelling.{varint, fixed, fixed_value, handle_spelling, IsVarint};
 ghost use Rattle.sst_num.specs.Reading.{varint_at, varint32_at, handle_at, fixed_at, StartsWithVarint, StartsWithHandle};

@@ -1,3 +1,4 @@
+//! Numbers and handles, appended in their spelling.
 ghost use Rattle.std.specs.Prelude.{◌≡◌, ℕ, ◌+◌, ◌<◌, ◌≤◌, ◌++◌, length, take, OnOk, OnErr};
 ghost use Rattle.std.specs.Vec.{vec_capacity};
 ghost use Rattle.sst_num.specs.Spelling.{varint, fixed, handle_spelling};

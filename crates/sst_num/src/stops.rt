@@ -1,3 +1,4 @@
+//! Why a call stops: out of memory, or a cause of its own.
 ghost use Rattle.std.specs.Prelude.{◌≡◌};
 ghost use Rattle.sst_num.specs.declared.stops.Refused.TheVariants as refused;
 ghost use Rattle.sst_num.specs.declared.stops.Stop.TheVariants as stop;

@@ -1,3 +1,4 @@
+//! Numbers and handles, read from the front of bytes.
 ghost use Rattle.std.specs.Prelude.{◌≡◌, ℕ, ◌<◌, ◌≤◌, ◌^◌, List, ◌++◌, length, take, IfSome, IfNone};
 ghost use Rattle.sst_num.specs.Spelling.{varint, fixed_value, handle_spelling};
 ghost use Rattle.sst_num.specs.Reading.{with_group, groups_at, fixed_at, varint_at, varint32_at, handle_at, StartsWithVarint, StartsWithHandle};

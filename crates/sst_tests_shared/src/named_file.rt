@@ -145,3 +145,26 @@ pub fn file_with_names(alloc: Global, pairs: &[(&str, &str)]) -> Result<Vec<u8>,
     put_metaindex(&mut file, &names_block(alloc, pairs)?)?;
     Ok(file)
 }
+
+/// A file of the line `61 1 P 78`, by what it says of itself.
+#[derive(Clone, Copy, Debug)]
+pub enum Named {
+    /// With these properties.
+    Properties(&'static [(&'static str, &'static str)]),
+    /// The same with other bytes for the index and its trailer.
+    Index(&'static [&'static str], &'static [(&'static str, &'static str)]),
+    /// Whose block of properties has these bytes.
+    Block(&'static [&'static str]),
+    /// Whose metaindex has these names.
+    Names(&'static [(&'static str, &'static str)]),
+}
+
+/// The bytes of the file.
+pub fn file_named(alloc: Global, named: Named) -> Result<Vec<u8>, Fail> {
+    match named {
+        Named::Properties(pairs) => file_with(alloc, pairs),
+        Named::Index(index, pairs) => file_with_index(alloc, index, pairs),
+        Named::Block(pieces) => file_with_block(alloc, pieces),
+        Named::Names(pairs) => file_with_names(alloc, pairs),
+    }
+}
