@@ -9,7 +9,7 @@ use Rattle.sst_block.specs.declared.iter.BlockIter.{BlockIter}
 use Rattle.sst_block.specs.declared.row_form.RowForm.TheVariants.{Entries}
 use Rattle.sst_block.specs.Block.{Row, Block, IsRow, IsInternalKey, AreOrdered}
 use Rattle.sst_block.specs.Iter.{Walks, place_of}
-use Rattle.sst_block.specs.Reading.{Reads}
+use Rattle.sst_block.specs.BlockReading.{Reads}
 use Rattle.sst_block.proofs.RowsCopied.{KeyAt, ValueAt, same_row, one_more}
 use Rattle.sst_bbt_spec.specs.Rows.{row_of, rows_of, HasSeq}
 use Rattle.sst_bbt_spec.proofs.EntriesOfRows.{entries-ordered}

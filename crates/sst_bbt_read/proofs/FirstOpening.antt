@@ -22,12 +22,12 @@ use Rattle.sst_meta.proofs.ReadSteps.{then_open-ok, then_open-err, as_fault-ok, 
 use Rattle.sst_meta.proofs.SaidOnce.{leads-once}
 use Rattle.sst_meta.proofs.StepsRead.{frame-right, block-right, rows-moved}
 use Rattle.sst_bbt_spec.specs.Reached.{HasIndex}
-use Rattle.sst_bbt_read.specs.Opening.{handle_of, with_rows, data_read, led_read, runs_read, opened_read, blocks_read}
+use Rattle.sst_bbt_read.specs.Opening.{handle_in_row, with_rows, data_read, led_read, runs_read, opened_read, blocks_read}
 use Rattle.sst_bbt_read.specs.OpeningSteps.{OpenStep, loading, index_frame, index_rows, data_frame, data_rows, data_some, part_of, IsEarlier, LeadsAt, OpeningFailsAt, OpeningFailsFirst}
 use Rattle.sst_bbt_read.specs.declared.bbt_fault.BbtFault.{BbtFault}
 use Rattle.sst_bbt_read.specs.declared.bbt_fault.BbtFault.TheVariants as bbt
 use Rattle.sst_bbt_read.proofs.OpeningFail.{led-same}
-use Rattle.sst_bbt_read.proofs.RowsLed.{handle_of-row}
+use Rattle.sst_bbt_read.proofs.RowsLed.{handle_in_row-is}
 
 -- no step of an earlier part fails
 abbrev Clear : List ℕ → ℕ → Type 0
@@ -185,15 +185,15 @@ runs-first file end all [] n fault has same forms clear e = cc
 runs-first file end all (row ∷ rows) n fault has same forms clear e =
     let is : IsHandle row.value = (All-head (IsRow (Index false false)) row rows forms).1.1 in
     let h = is.0 in
-    let handle = handle_of-row row h is.1 is.2 is.3 in
+    let handle = handle_in_row-is row h is.1 is.2 is.3 in
     let start : n ≡ n + 0 = omega arith in
     let leads : LeadsAt file end n h = record { rows = all; has = has; row = row; at = ap (slice_get all) start ∙ same 0; value = is.3 } in
     then_open-err (led_read file end row) _ fault e
-    (λ first. then_open-err (data_read file end (handle_of row)) _ fault first
+    (λ first. then_open-err (data_read file end (handle_in_row row)) _ fault first
     (λ wrong. block-first file end n h fault leads clear (ap (data_read file end) (sym handle) ∙ wrong))
     (λ read found last. cc))
     (λ block led e. then_open-err (runs_read file end rows) _ fault e
-    (λ later. then_open-ok (data_read file end (handle_of row)) _ block led
+    (λ later. then_open-ok (data_read file end (handle_in_row row)) _ block led
     (λ read found last.
     let next = block-clear file end n h read leads clear (ap (data_read file end) (sym handle) ∙ found) in
     let shift : (i : ℕ) → slice_get all (suc n + i) ≡ slice_get rows i = λ i.

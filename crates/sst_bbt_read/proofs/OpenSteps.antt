@@ -3,7 +3,7 @@ use Rattle.std.proofs.Common.{◌≡◌, ◌⊎◌, inl, inr, IsTrue, ℕ, ◌-�
 use Rattle.std.proofs.lemmas.Bool.{ltb-true}
 use Rattle.std.proofs.lemmas.List.{length-map}
 use Rattle.std.specs.FinMap.{get}
-use Rattle.sst_num.specs.Reading.{handle_at}
+use Rattle.sst_num.specs.NumberReading.{handle_at}
 use Rattle.sst_num.specs.declared.block_handle.Handle.{Handle}
 use Rattle.sst_num.specs.declared.stops.Stop.{Stop}
 use Rattle.sst_num.specs.declared.stops.Stop.TheVariants.{Damage, Device, Memory}
@@ -12,7 +12,7 @@ use Rattle.sst_block.specs.declared.row_form.RowForm.{RowForm}
 use Rattle.sst_block.specs.declared.row_form.RowForm.TheVariants.{Entries, Names}
 use Rattle.sst_block.specs.declared.fault.BlockFault.{BlockFault}
 use Rattle.sst_block.specs.Block.{Row, Spelled}
-use Rattle.sst_block.specs.Reading.{Reads, Gives, block_read}
+use Rattle.sst_block.specs.BlockReading.{Reads, Gives, block_read}
 use Rattle.sst_device.specs.Faults.{Rose}
 use Rattle.sst_device.specs.Folder.{Files, file_of, misses, ends_before}
 use Rattle.sst_device.specs.Stops.{Answers, stop_as}

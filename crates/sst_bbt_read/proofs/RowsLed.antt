@@ -2,9 +2,9 @@
 use Rattle.std.proofs.Common.{◌≡◌, ℕ, ◌^◌, ◌<◌, List, [], ◌∷◌, length, Some, Result, Ok, refl, ap, sym, ◌∙◌, subst, arith}
 use Rattle.std.proofs.lemmas.List.{append-nil, length-map}
 use Rattle.sst_num.specs.Spelling.{handle_spelling}
-use Rattle.sst_num.specs.Reading.{handle_at}
+use Rattle.sst_num.specs.NumberReading.{handle_at}
 use Rattle.sst_num.specs.declared.block_handle.Handle.{Handle}
-use Rattle.sst_num.proofs.Reading.{handle_at-handle}
+use Rattle.sst_num.proofs.NumberReading.{handle_at-handle}
 use Rattle.sst_key.specs.declared.entries.Entry.{Entry}
 use Rattle.sst_block.specs.declared.row_form.RowForm.TheVariants.{Entries}
 use Rattle.sst_block.specs.Block.{Row, Block, IsHandle}
@@ -15,7 +15,7 @@ use Rattle.sst_meta.proofs.ReadSteps.{then_open-ok}
 use Rattle.sst_bbt_spec.specs.Rows.{row_of, rows_of}
 use Rattle.sst_bbt_spec.specs.Runs.{LeadsTo}
 use Rattle.sst_bbt_spec.proofs.EntriesOfRows.{EntriesOf, entries-of_rows}
-use Rattle.sst_bbt_read.specs.Opening.{RowBlock, handle_read, handle_of, with_rows, data_read, led_read}
+use Rattle.sst_bbt_read.specs.Opening.{RowBlock, handle_read, handle_in_row, with_rows, data_read, led_read}
 use Rattle.sst_bbt_read.specs.declared.bbt_fault.BbtFault.{BbtFault}
 use Rattle.sst_bbt_read.specs.declared.bbt_fault.BbtFault.TheVariants as bbt
 
@@ -24,8 +24,8 @@ handle_at-alone : (h : Handle) → h.offset < 2 ^ 64 → h.size < 2 ^ 64 → han
 handle_at-alone h offset size =
     subst (λ (l : List ℕ). handle_at l ≡ Some (h, length (handle_spelling h))) (append-nil (handle_spelling h)) (handle_at-handle h [] offset size)
 
-pub handle_of-row : (row : Row) (h : Handle) → h.offset < 2 ^ 64 → h.size < 2 ^ 64 → row.value ≡ handle_spelling h → handle_of row ≡ h
-handle_of-row row h offset size value = ap handle_read (ap handle_at value ∙ handle_at-alone h offset size)
+pub handle_in_row-is : (row : Row) (h : Handle) → h.offset < 2 ^ 64 → h.size < 2 ^ 64 → row.value ≡ handle_spelling h → handle_in_row row ≡ h
+handle_in_row-is row h offset size value = ap handle_read (ap handle_at value ∙ handle_at-alone h offset size)
 
 -- the rows of entries, of which there is one
 with_rows-some : (h : Handle) (entries : List Entry) → 0 < length entries → with_rows h (rows_of entries) ≡ Ok (rows_of entries)
@@ -45,7 +45,7 @@ led_read-leads file end row entries short leads =
     let at : RowsAt Entries file end h (rows_of entries) = record { bytes = leads.block; framed = leads.framed; block = leads.rows } in
     let rows = block_at-rows bbt.Frame (bbt.Block h) Entries file end h (rows_of entries) tt at in
     let whole : data_read file end h ≡ Ok (rows_of entries) = ap (λ r. then_open r (with_rows h)) rows ∙ with_rows-some h entries leads.some in
-    let read : data_read file end (handle_of row) ≡ Ok (rows_of entries) = ap (data_read file end) (handle_of-row row h fits.0 fits.1 leads.value) ∙ whole in
+    let read : data_read file end (handle_in_row row) ≡ Ok (rows_of entries) = ap (data_read file end) (handle_in_row-is row h fits.0 fits.1 leads.value) ∙ whole in
     ap (λ (r : Result (List Row) BbtFault). then_open r (λ rows. Ok (led_block row rows))) read
 
 -- a data block that is passed has a row
@@ -78,8 +78,8 @@ pub record Led (file : List ℕ) (end : ℕ) (row : Row) (read : RowBlock) : Typ
 pub led_read-found : (file : List ℕ) (end : ℕ) (row : Row) (read : RowBlock) → IsHandle row.value → led_read file end row ≡ Ok read → Led file end row read
 led_read-found file end row read is e =
     let h = is.0 in
-    let same = handle_of-row row h is.1 is.2 is.3 in
-    then_open-ok (data_read file end (handle_of row)) (λ rows. Ok (led_block row rows)) read e
+    let same = handle_in_row-is row h is.1 is.2 is.3 in
+    then_open-ok (data_read file end (handle_in_row row)) (λ rows. Ok (led_block row rows)) read e
     (λ rows first last.
     let whole : data_read file end h ≡ Ok rows = ap (data_read file end) (sym same) ∙ first in
     then_open-ok (block_at bbt.Frame (bbt.Block h) Entries file end h) (with_rows h) rows whole

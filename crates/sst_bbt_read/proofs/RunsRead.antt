@@ -1,7 +1,7 @@
 -- Data blocks that are read one behind the other, as the rows of an index lead to them.
 use Rattle.std.proofs.Common.{◌≡◌, ℕ, ◌+◌, ◌≤◌, List, [], ◌∷◌, ◌++◌, length, take, drop, Some, slice_get, Result, Ok, Err, sym, ap, ◌∙◌}
 use Rattle.std.proofs.lemmas.List.{map-append, append_assoc, take-append-drop, take_all}
-use Rattle.sst_num.specs.Reading.{handle_at}
+use Rattle.sst_num.specs.NumberReading.{handle_at}
 use Rattle.sst_num.specs.declared.stops.Stop.{Stop}
 use Rattle.sst_num.specs.declared.stops.Stop.TheVariants.{Damage, Device, Memory}
 use Rattle.sst_key.specs.declared.entries.Entry.{Entry}
@@ -10,7 +10,7 @@ use Rattle.sst_block.proofs.RowsCopied.{KeyAt, ValueAt, one_more}
 use Rattle.sst_meta.specs.Blocks.{then_open}
 use Rattle.sst_bbt_spec.specs.Rows.{rows_of}
 use Rattle.sst_bbt_spec.specs.Way.{IndexedBlock}
-use Rattle.sst_bbt_read.specs.Opening.{RowBlock, handle_read, handle_of, data_read, led_read, runs_read}
+use Rattle.sst_bbt_read.specs.Opening.{RowBlock, handle_read, handle_in_row, data_read, led_read, runs_read}
 use Rattle.sst_bbt_read.specs.TableBlocks.{row_block_of, row_blocks_of}
 use Rattle.sst_bbt_read.specs.Reader.{Opened, Stopped}
 use Rattle.sst_bbt_read.specs.declared.bbt_fault.BbtFault.{BbtFault}
@@ -41,7 +41,7 @@ runs_read-fault file end (first ∷ front) row rest blocks fault read led =
 
 -- what the value leads to is what the row leads to
 value-led : (file : List ℕ) (end : ℕ) (rows : List Row) (n : ℕ) (value : List ℕ) (row : Row) → slice_get rows n ≡ Some row → ValueAt rows n value
-    → data_read file end (handle_of row) ≡ data_read file end (handle_read (handle_at value))
+    → data_read file end (handle_in_row row) ≡ data_read file end (handle_read (handle_at value))
 value-led file end rows n value row at (other, there, v) =
     let same : Some row ≡ Some other = sym at ∙ there in
     let one : other ≡ row = cc in
@@ -54,7 +54,7 @@ pub read_more : (file : List ℕ) (end : ℕ) (rows : List Row) (n : ℕ) (key v
     → runs_read file end (take (n + 1) rows) ≡ Ok (row_blocks_of (blocks ++ record { separator = key; entries = added } ∷ []))
 read_more file end rows n key value blocks added before (row, at, k) v led =
     let more : IndexedBlock = record { separator = key; entries = added } in
-    let rows_led : data_read file end (handle_of row) ≡ Ok (rows_of added) = value-led file end rows n value row at v ∙ led in
+    let rows_led : data_read file end (handle_in_row row) ≡ Ok (rows_of added) = value-led file end rows n value row at v ∙ led in
     let here : led_read file end row ≡ Ok (row_block_of more) =
     ap (λ (r : Result (List Row) BbtFault). then_open r (λ rows. Ok (record { separator = row.key; rows = rows }))) rows_led
     ∙ ap (λ (s : List ℕ). Ok (record { separator = s; rows = rows_of added })) (sym k) in
@@ -75,7 +75,7 @@ pub read_stopped : (stop : Stop BbtFault) (file : List ℕ) (end : ℕ) (rows : 
     → Opened (Err stop) (runs_read file end rows)
 read_stopped (Damage fault) file end rows n value blocks before v led =
     let at = v.1 in
-    let rows_led : data_read file end (handle_of v.0) ≡ Err fault = value-led file end rows n value v.0 at v ∙ led in
+    let rows_led : data_read file end (handle_in_row v.0) ≡ Err fault = value-led file end rows n value v.0 at v ∙ led in
     let here : led_read file end v.0 ≡ Err fault =
     ap (λ (r : Result (List Row) BbtFault). then_open r (λ rows. Ok (record { separator = v.0.key; rows = rows }))) rows_led in
     ap (runs_read file end) (sym (around rows n v.0 at)) ∙ runs_read-fault file end (take n rows) v.0 (drop (n + 1) rows) blocks fault before here

@@ -10,7 +10,7 @@ use Rattle.sst_block.specs.declared.iter.BlockIter.{BlockIter}
 use Rattle.sst_block.specs.declared.row_form.RowForm.TheVariants.{Index}
 use Rattle.sst_block.specs.Block.{Row, IsRow, IsHandle}
 use Rattle.sst_block.specs.Iter.{Walks, place_of}
-use Rattle.sst_block.specs.Reading.{Reads}
+use Rattle.sst_block.specs.BlockReading.{Reads}
 use Rattle.sst_block.proofs.BlockRead.{read-sound}
 use Rattle.sst_block.proofs.RowsCopied.{ValueAt, walks-at}
 use Rattle.sst_device.specs.Folder.{Files, file_of, misses}

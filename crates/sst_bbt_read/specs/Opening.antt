@@ -3,7 +3,7 @@
 -- block is framed before it is read.
 -- RocksDB: BlockBasedTable::Open in table/block_based/block_based_table_reader.cc.
 use Rattle.std.specs.Prelude.{ℕ, false, List, [], ◌∷◌, Option, None, Some, Result, Ok, Err}
-use Rattle.sst_num.specs.Reading.{handle_at}
+use Rattle.sst_num.specs.NumberReading.{handle_at}
 use Rattle.sst_num.specs.declared.block_handle.Handle.{Handle}
 use Rattle.sst_block.specs.declared.row_form.RowForm.TheVariants.{Entries, Index}
 use Rattle.sst_block.specs.Block.{Row}
@@ -28,8 +28,8 @@ abbrev pub handle_read : Option (Handle × ℕ) → Handle
 handle_read None = record { offset = 0; size = 0 }
 handle_read (Some read) = read.0
 
-abbrev pub handle_of : Row → Handle
-handle_of row = handle_read (handle_at row.value)
+abbrev pub handle_in_row : Row → Handle
+handle_in_row row = handle_read (handle_at row.value)
 
 -- the rows of a data block, of which there must be one
 -- Own.
@@ -48,7 +48,7 @@ data_read file end h = then_open (block_at bbt.Frame (bbt.Block h) Entries file 
 -- Pinned by: two_data_blocks
 abbrev pub led_read : List ℕ → ℕ → Row → Result RowBlock BbtFault
 led_read file end row =
-    then_open (data_read file end (handle_of row)) (λ rows. Ok (record { separator = row.key; rows = rows }))
+    then_open (data_read file end (handle_in_row row)) (λ rows. Ok (record { separator = row.key; rows = rows }))
 
 -- the data blocks to which the index rows lead, or the first fault of the first that has one
 -- Pinned by: two_data_blocks

@@ -1,7 +1,7 @@
 //! The rows of data blocks that were checked, as the entries that they stand for.
 ghost use Rattle.std.specs.Prelude.{◌≡◌, ◌≤◌, ◌^◌, List, ◌++◌, length, IfOk, OnOk};
 ghost use Rattle.sst_block.specs.Block.{Row, IsInternalKey};
-ghost use Rattle.sst_block.specs.Reading.{Reads};
+ghost use Rattle.sst_block.specs.BlockReading.{Reads};
 ghost use Rattle.sst_block.specs.declared.row_form.RowForm.TheVariants.{Entries};
 ghost use Rattle.sst_key.specs.declared.entries.Entry.{Entry};
 ghost use Rattle.sst_bbt_spec.specs.Rows.{rows_of, row_of, HasSeq};

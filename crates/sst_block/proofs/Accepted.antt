@@ -9,7 +9,7 @@ use Rattle.sst_block.specs.declared.fault.BlockFault.{BlockFault}
 use Rattle.sst_block.specs.Block.{Row, Spelled, Block}
 use Rattle.sst_block.specs.Builder.{HasNoFlags}
 use Rattle.sst_block.specs.FirstFault.{IsFirstFault}
-use Rattle.sst_block.specs.Reading.{block_read, Gives}
+use Rattle.sst_block.specs.BlockReading.{block_read, Gives}
 use Rattle.sst_block.proofs.BlockRead.{read-sound}
 use Rattle.sst_block.proofs.FirstFaults.{read-first}
 use Rattle.sst_block.proofs.OneReading.{no-rows}

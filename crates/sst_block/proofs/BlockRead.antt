@@ -7,8 +7,8 @@ use Rattle.sst_block.specs.declared.row_form.RowForm.{RowForm}
 use Rattle.sst_block.specs.declared.fault.BlockFault.{BlockFault}
 use Rattle.sst_block.specs.Block.{Row, Spelled, Block, IsRow, AreOrdered, AreRestarts, row_spelling, fresh_starts, restarts_spelling}
 use Rattle.sst_block.specs.Builder.{HasNoFlags}
-use Rattle.sst_block.specs.FirstFault.{rows_of, HasFooter}
-use Rattle.sst_block.specs.Reading.{restart_count, rows_end, rows_read, restarts_fault, unless, then_read, with_restarts, parts_read, block_read, Reads}
+use Rattle.sst_block.specs.FirstFault.{rows_spelled, HasFooter}
+use Rattle.sst_block.specs.BlockReading.{restart_count, rows_end, rows_read, restarts_fault, unless, then_read, with_restarts, parts_read, block_read, Reads}
 use Rattle.sst_block.proofs.Steps.{length-restarts}
 use Rattle.sst_block.proofs.Follows.{Follows, all-follow, followers}
 use Rattle.sst_block.proofs.Footer.{footer-length, footer-last, footer-read, footer-found}
@@ -65,7 +65,7 @@ read-again form spelled rest plain follows rises short =
 -- what a block has is read
 pub read-complete : (form : RowForm) (bytes : List ℕ) (rows : List Row) → HasNoFlags form → Block form bytes rows → Reads form bytes rows
 read-complete form bytes rows plain block =
-    let same : rows ≡ rows_of block.spelled = sym block.are_rows in
+    let same : rows ≡ rows_spelled block.spelled = sym block.are_rows in
     let forms = subst (λ (all : List Row). All (IsRow form) all) same block.forms in
     let ordered = subst (λ (all : List Row). AreOrdered form all) same block.ordered in
     let follows = all-follow form block.spelled block.fronts forms ordered in

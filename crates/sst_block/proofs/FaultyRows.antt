@@ -7,8 +7,8 @@ use Rattle.sst_block.specs.declared.fault.BlockFault.{BlockFault}
 use Rattle.sst_block.specs.declared.fault.BlockFault.TheVariants.{BadRow, BadRestart, BadFooter, Disorder, BadKind, BadHash, BadHandle}
 use Rattle.sst_block.specs.Block.{Spelled, row_spelling, IsInternalKey, IsHandle, HasForm, AreOrdered}
 use Rattle.sst_block.specs.Builder.{HasNoFlags, last_key}
-use Rattle.sst_block.specs.FirstFault.{rows_of, BeginsNoRow, BeginsRow, IsRowFault}
-use Rattle.sst_block.specs.Reading.{has_tag, is_internal_key, is_handle, is_after, form_fault, order_fault, or_fault, row_fault, unless, sound_row, row_at, row_read}
+use Rattle.sst_block.specs.FirstFault.{rows_spelled, BeginsNoRow, BeginsRow, IsRowFault}
+use Rattle.sst_block.specs.BlockReading.{has_tag, is_internal_key, is_handle, is_after, form_fault, order_fault, or_fault, row_fault, unless, sound_row, row_at, row_read}
 use Rattle.sst_block.proofs.Follows.{last_of, last-key, ordered-push}
 use Rattle.sst_block.proofs.RowAt.{row_at-found}
 use Rattle.sst_block.proofs.RowFaults.{good-lengths, row-read}
@@ -78,41 +78,41 @@ disorder (Index false false) before key at bytes s plain row formed unordered =
     (le-ltb (length s.row.key) 8 (row.lengths.tagged refl)) (handle-passes s.row.value formed.1) unordered)
 
 handles-faulty : (form : RowForm) (good : List Spelled) (at : ℕ) (bytes : List ℕ) → HasNoFlags form → IsRowFault form good at bytes (BadHandle at)
-    → sound_row form at (last_of None (rows_of good)) (row_at (last_key [] (rows_of good)) bytes) ≡ Err (BadHandle at)
+    → sound_row form at (last_of None (rows_spelled good)) (row_at (last_key [] (rows_spelled good)) bytes) ≡ Err (BadHandle at)
 handles-faulty Entries good at bytes plain is = absurd is.1
 handles-faulty Names good at bytes plain is = absurd is.1
 handles-faulty (Index true delta) good at bytes plain is = absurd plain
 handles-faulty (Index false true) good at bytes plain is = absurd plain
 handles-faulty (Index false false) good at bytes plain is =
-    bad-handle (last_of None (rows_of good)) (last_key [] (rows_of good)) at bytes is.2.0 is.2.1 is.2.2
+    bad-handle (last_of None (rows_spelled good)) (last_key [] (rows_spelled good)) at bytes is.2.0 is.2.1 is.2.2
 
 kinds-faulty : (form : RowForm) (good : List Spelled) (at : ℕ) (bytes : List ℕ) → IsRowFault form good at bytes (BadKind at)
-    → sound_row form at (last_of None (rows_of good)) (row_at (last_key [] (rows_of good)) bytes) ≡ Err (BadKind at)
-kinds-faulty Entries good at bytes is = bad-kind (last_of None (rows_of good)) (last_key [] (rows_of good)) at bytes is.2.0 is.2.1 is.2.2
+    → sound_row form at (last_of None (rows_spelled good)) (row_at (last_key [] (rows_spelled good)) bytes) ≡ Err (BadKind at)
+kinds-faulty Entries good at bytes is = bad-kind (last_of None (rows_spelled good)) (last_key [] (rows_spelled good)) at bytes is.2.0 is.2.1 is.2.2
 kinds-faulty Names good at bytes is = let wrong : Names ≡ Entries = is.1 in cc
 kinds-faulty (Index user_key delta) good at bytes is = let wrong : Index user_key delta ≡ Entries = is.1 in cc
 
 -- the fault of a row, at the place where the row begins
-at-place : (form : RowForm) (good : List Spelled) (at : ℕ) (bytes : List ℕ) (fault : BlockFault) → HasNoFlags form → AreOrdered form (rows_of good)
-    → IsRowFault form good at bytes fault → sound_row form at (last_of None (rows_of good)) (row_at (last_key [] (rows_of good)) bytes) ≡ Err fault
+at-place : (form : RowForm) (good : List Spelled) (at : ℕ) (bytes : List ℕ) (fault : BlockFault) → HasNoFlags form → AreOrdered form (rows_spelled good)
+    → IsRowFault form good at bytes fault → sound_row form at (last_of None (rows_spelled good)) (row_at (last_key [] (rows_spelled good)) bytes) ≡ Err fault
 at-place form good at bytes (BadRow place) plain ordered is =
-    let key = last_key [] (rows_of good) in
-    bad-lengths form (last_of None (rows_of good)) key at bytes (row_at key bytes) refl is.1 ∙ ap (λ (p : ℕ). Err (BadRow p)) (sym is.0)
+    let key = last_key [] (rows_spelled good) in
+    bad-lengths form (last_of None (rows_spelled good)) key at bytes (row_at key bytes) refl is.1 ∙ ap (λ (p : ℕ). Err (BadRow p)) (sym is.0)
 at-place form good at bytes (BadKind place) plain ordered is =
     kinds-faulty form good at bytes (refl, is.1, is.2) ∙ ap (λ (p : ℕ). Err (BadKind p)) (sym is.0)
 at-place form good at bytes (BadHandle place) plain ordered is =
     handles-faulty form good at bytes plain (refl, is.1, is.2) ∙ ap (λ (p : ℕ). Err (BadHandle p)) (sym is.0)
 at-place form good at bytes (Disorder place) plain ordered is =
-    let unordered = false_from_ne_true (is_after form (last_of None (rows_of good)) is.1.0.row.key) (λ after. is.1.3 (ordered-push form (rows_of good) is.1.0.row ordered after)) in
-    disorder form (last_of None (rows_of good)) (last_key [] (rows_of good)) at bytes is.1.0 plain is.1.1 is.1.2 unordered ∙ ap (λ (p : ℕ). Err (Disorder p)) (sym is.0)
+    let unordered = false_from_ne_true (is_after form (last_of None (rows_spelled good)) is.1.0.row.key) (λ after. is.1.3 (ordered-push form (rows_spelled good) is.1.0.row ordered after)) in
+    disorder form (last_of None (rows_spelled good)) (last_key [] (rows_spelled good)) at bytes is.1.0 plain is.1.1 is.1.2 unordered ∙ ap (λ (p : ℕ). Err (Disorder p)) (sym is.0)
 at-place form good at bytes (BadRestart i) plain ordered is = absurd is
 at-place form good at bytes BadFooter plain ordered is = absurd is
 at-place form good at bytes (BadHash place) plain ordered is = absurd is
 
 -- a row behind good rows that has a fault is read as this fault
 pub row_read-faulty : (form : RowForm) (good : List Spelled) (at : ℕ) (bytes : List ℕ) (fault : BlockFault) → HasNoFlags form
-    → AreOrdered form (rows_of good) → IsRowFault form good at bytes fault → row_read form at (last_of None (rows_of good)) bytes ≡ Err fault
+    → AreOrdered form (rows_spelled good) → IsRowFault form good at bytes fault → row_read form at (last_of None (rows_spelled good)) bytes ≡ Err fault
 unfolding row_read
 row_read-faulty form good at bytes fault plain ordered is =
-    ap (λ (key : List ℕ). sound_row form at (last_of None (rows_of good)) (row_at key bytes)) (last-key None (rows_of good))
+    ap (λ (key : List ℕ). sound_row form at (last_of None (rows_spelled good)) (row_at key bytes)) (last-key None (rows_spelled good))
     ∙ at-place form good at bytes fault plain ordered is

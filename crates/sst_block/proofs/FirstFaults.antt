@@ -8,8 +8,8 @@ use Rattle.sst_block.specs.declared.fault.BlockFault.{BlockFault}
 use Rattle.sst_block.specs.declared.fault.BlockFault.TheVariants.{BadRow, BadRestart, BadFooter, Disorder, BadKind, BadHash, BadHandle}
 use Rattle.sst_block.specs.Block.{Spelled, row_spelling, fresh_starts}
 use Rattle.sst_block.specs.Builder.{HasNoFlags}
-use Rattle.sst_block.specs.FirstFault.{rows_of, HasFooter, AreSound, IsRowFault, HasFaultyRow, HasFaultyRestart, IsFirstFault}
-use Rattle.sst_block.specs.Reading.{restart_count, rows_end, rows_read, restarts_fault, row_read, unless, then_read, with_restarts, parts_read, block_read}
+use Rattle.sst_block.specs.FirstFault.{rows_spelled, HasFooter, AreSound, IsRowFault, HasFaultyRow, HasFaultyRestart, IsFirstFault}
+use Rattle.sst_block.specs.BlockReading.{restart_count, rows_end, rows_read, restarts_fault, row_read, unless, then_read, with_restarts, parts_read, block_read}
 use Rattle.sst_block.proofs.FaultyRows.{row_read-faulty}
 use Rattle.sst_block.proofs.Follows.{Follows, last_of, all-follow, followers}
 use Rattle.sst_block.proofs.Footer.{footer-length, footer-read, footer-found}
@@ -133,8 +133,8 @@ row-read-first form bytes fault plain short h =
     let first : take (rows_end bytes h.count) bytes ≡ front = ap (take (rows_end bytes h.count)) joined ∙ take_at front h.end (rows_end bytes h.count) at in
     let place : length rows ≡ 0 + length rows = omega arith in
     let row = row_read-faulty form h.good (length rows) h.rest fault plain h.sound.ordered h.faulty in
-    let reads : row_read form (0 + length rows) (last_of None (rows_of h.good)) h.rest ≡ Err fault =
-    subst (λ (p : ℕ). row_read form p (last_of None (rows_of h.good)) h.rest ≡ Err fault) place row in
+    let reads : row_read form (0 + length rows) (last_of None (rows_spelled h.good)) h.rest ≡ Err fault =
+    subst (λ (p : ℕ). row_read form p (last_of None (rows_spelled h.good)) h.rest ≡ Err fault) place row in
     let all = rows_from-faulty form h.good (length front) 0 None h.rest fault plain (follow-sound form h.good h.sound) (omega arith) (omega arith) h.some reads in
     ap (parts_read form bytes) (footer-read bytes h.count h.footer)
     ∙ ap (λ (t : List ℕ). then_read (rows_read form t) (with_restarts h.count (drop (rows_end bytes h.count) bytes))) first

@@ -7,8 +7,8 @@ use Rattle.std.proofs.lemmas.List.Elements.{All-nil, All-cons, All-head, All-tai
 use Rattle.sst_block.specs.declared.row_form.RowForm.{RowForm}
 use Rattle.sst_block.specs.Block.{Row, Spelled, common, SharesFronts, key_cmp, AreOrdered, IsRow}
 use Rattle.sst_block.specs.Builder.{last_key}
-use Rattle.sst_block.specs.FirstFault.{rows_of}
-use Rattle.sst_block.specs.Reading.{is_after, key_before}
+use Rattle.sst_block.specs.FirstFault.{rows_spelled}
+use Rattle.sst_block.specs.BlockReading.{is_after, key_before}
 
 -- each row may follow the one before it: it shares no more than it may, has the form, and is after it
 abbrev pub Follows : RowForm → Option (List ℕ) → List Spelled → Type 0
@@ -43,33 +43,33 @@ ordered-first form [] is = tt
 ordered-first form (row ∷ rows) is = ordered-after form row rows is.1
 
 follows-from : (form : RowForm) (before : Option (List ℕ)) (spelled : List Spelled) → SharesFronts (key_before before) spelled
-    → All (IsRow form) (rows_of spelled) → OrderedAfter form before (rows_of spelled) → Follows form before spelled
+    → All (IsRow form) (rows_spelled spelled) → OrderedAfter form before (rows_spelled spelled) → Follows form before spelled
 follows-from form before [] fronts forms ordered = tt
 follows-from form before (s ∷ rest) fronts forms ordered = (
   fronts.0,
-  All-head (IsRow form) s.row (rows_of rest) forms,
+  All-head (IsRow form) s.row (rows_spelled rest) forms,
   ordered.0,
-  follows-from form (Some s.row.key) rest fronts.1 (All-tail (IsRow form) s.row (rows_of rest) forms) ordered.1,
+  follows-from form (Some s.row.key) rest fronts.1 (All-tail (IsRow form) s.row (rows_spelled rest) forms) ordered.1,
 )
 
 follows-parts : (form : RowForm) (before : Option (List ℕ)) (spelled : List Spelled) → Follows form before spelled
-    → SharesFronts (key_before before) spelled × All (IsRow form) (rows_of spelled) × OrderedAfter form before (rows_of spelled)
+    → SharesFronts (key_before before) spelled × All (IsRow form) (rows_spelled spelled) × OrderedAfter form before (rows_spelled spelled)
 follows-parts form before [] follows = (tt, All-nil (IsRow form), tt)
 follows-parts form before (s ∷ rest) follows =
     let more = follows-parts form (Some s.row.key) rest follows.3 in
-    ((follows.0, more.0), All-cons (IsRow form) s.row (rows_of rest) follows.1 more.1, (follows.2, more.2))
+    ((follows.0, more.0), All-cons (IsRow form) s.row (rows_spelled rest) follows.1 more.1, (follows.2, more.2))
 
 -- rows that share no more than they may, have the form, and are ordered, follow one another
-pub all-follow : (form : RowForm) (spelled : List Spelled) → SharesFronts [] spelled → All (IsRow form) (rows_of spelled)
-    → AreOrdered form (rows_of spelled) → Follows form None spelled
-all-follow form spelled fronts forms ordered = follows-from form None spelled fronts forms (first-ordered form (rows_of spelled) ordered)
+pub all-follow : (form : RowForm) (spelled : List Spelled) → SharesFronts [] spelled → All (IsRow form) (rows_spelled spelled)
+    → AreOrdered form (rows_spelled spelled) → Follows form None spelled
+all-follow form spelled fronts forms ordered = follows-from form None spelled fronts forms (first-ordered form (rows_spelled spelled) ordered)
 
 -- and the other way round
 pub followers : (form : RowForm) (spelled : List Spelled) → Follows form None spelled
-    → SharesFronts [] spelled × All (IsRow form) (rows_of spelled) × AreOrdered form (rows_of spelled)
+    → SharesFronts [] spelled × All (IsRow form) (rows_spelled spelled) × AreOrdered form (rows_spelled spelled)
 followers form spelled follows =
     let parts = follows-parts form None spelled follows in
-    (parts.0, parts.1, ordered-first form (rows_of spelled) parts.2)
+    (parts.0, parts.1, ordered-first form (rows_spelled spelled) parts.2)
 
 -- the key of the last row, if there is one
 abbrev pub last_of : Option (List ℕ) → List Row → Option (List ℕ)

@@ -6,7 +6,7 @@ use Rattle.std.proofs.lemmas.Option.{none-some}
 use Rattle.sst_num.specs.Spelling.{fixed}
 use Rattle.sst_num.proofs.FixedAt.{fixed_at-found, fixed_at-joined}
 use Rattle.sst_block.specs.FirstFault.{HasFooter}
-use Rattle.sst_block.specs.Reading.{fits_in, number_where, restart_count}
+use Rattle.sst_block.specs.BlockReading.{fits_in, number_where, restart_count}
 use Rattle.sst_block.proofs.RestartsRead.{number_where-fixed, number_where-found}
 
 -- the length of what stands before a footer

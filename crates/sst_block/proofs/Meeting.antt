@@ -6,12 +6,12 @@ use Rattle.std.proofs.lemmas.Bool.{cases_Bool, cases_lt, cases_eq, lt-ltb, le-lt
 use Rattle.std.proofs.lemmas.Bool.Decides.{nat_tests}
 use Rattle.std.proofs.lemmas.Option.{none-some}
 use Rattle.std.proofs.lemmas.List.Folds.{list_any-append}
-use Rattle.sst_num.specs.Reading.{fixed_at}
+use Rattle.sst_num.specs.NumberReading.{fixed_at}
 use Rattle.sst_num.proofs.Groups.{varint-some}
 use Rattle.sst_block.specs.declared.fault.BlockFault.{BlockFault}
 use Rattle.sst_block.specs.declared.fault.BlockFault.TheVariants.{BadRestart}
 use Rattle.sst_block.specs.Block.{Spelled, row_spelling, fresh_starts}
-use Rattle.sst_block.specs.Reading.{may_follow, restart_fault}
+use Rattle.sst_block.specs.BlockReading.{may_follow, restart_fault}
 use Rattle.sst_block.specs.Restarts.{Open, is_next, met, met_by, open_after}
 
 -- a row takes at least one byte

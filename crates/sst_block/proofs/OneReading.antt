@@ -6,7 +6,7 @@ use Rattle.sst_block.specs.declared.row_form.RowForm.TheVariants.{Entries, Names
 use Rattle.sst_block.specs.declared.fault.BlockFault.{BlockFault}
 use Rattle.sst_block.specs.Block.{Row, Spelled, Block, IsRow, AreOrdered, key_cmp}
 use Rattle.sst_block.specs.Builder.{HasNoFlags}
-use Rattle.sst_block.specs.Reading.{block_read, Reads}
+use Rattle.sst_block.specs.BlockReading.{block_read, Reads}
 use Rattle.sst_block.proofs.BlockRead.{read-complete, read-sound}
 
 -- what reads as a fault has no rows

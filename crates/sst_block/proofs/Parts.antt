@@ -1,12 +1,12 @@
 -- What is counted on the way through the rows, and the first restart, say what the block reads as.
 use Rattle.std.proofs.Common.{◌≡◌, ℕ, zero, suc, ◌+◌, ◌-◌, ◌==◌, ◌<◌, ◌≤◌, true, false, ◌&&◌, if◌then◌else◌, List, [], ◌∷◌, length, drop, Some, refl, sym, ap, ◌∙◌, arith}
 use Rattle.std.specs.Prelude.{Result, Ok, Err, nat_lt}
-use Rattle.sst_num.specs.Reading.{fixed_at}
+use Rattle.sst_num.specs.NumberReading.{fixed_at}
 use Rattle.sst_block.specs.declared.row_form.RowForm.{RowForm}
 use Rattle.sst_block.specs.declared.fault.BlockFault.{BlockFault}
 use Rattle.sst_block.specs.declared.fault.BlockFault.TheVariants.{BadRestart}
 use Rattle.sst_block.specs.Block.{Spelled, row_spelling, fresh_starts}
-use Rattle.sst_block.specs.Reading.{then_read, with_restarts, rows_read, restarts_fault}
+use Rattle.sst_block.specs.BlockReading.{then_read, with_restarts, rows_read, restarts_fault}
 use Rattle.sst_block.specs.Restarts.{Open, is_next, met, met_by, open_after, counted, rows_counted}
 use Rattle.sst_block.proofs.Meeting.{Below, Unmet, fault_left, open-fault}
 

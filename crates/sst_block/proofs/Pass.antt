@@ -4,7 +4,7 @@ use Rattle.std.specs.Prelude.{Result, Ok, Err}
 use Rattle.sst_block.specs.declared.row_form.RowForm.{RowForm}
 use Rattle.sst_block.specs.declared.fault.BlockFault.{BlockFault}
 use Rattle.sst_block.specs.Block.{Spelled, row_spelling}
-use Rattle.sst_block.specs.Reading.{row_read, then_read, onto_rows, rows_from, rows_read}
+use Rattle.sst_block.specs.BlockReading.{row_read, then_read, onto_rows, rows_from, rows_read}
 use Rattle.sst_block.specs.declared.row.Lengths.{Lengths}
 use Rattle.sst_block.specs.Rows.{key_held, row_lent, row_length, FitsIn, IsLongEnough}
 use Rattle.sst_block.specs.Restarts.{Open, met_by, open_after, counted, rows_counted}

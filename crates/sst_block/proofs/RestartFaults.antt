@@ -4,12 +4,12 @@ use Rattle.std.specs.List.{flat_map}
 use Rattle.std.proofs.lemmas.Bool.{eqb-true, eq-eqb}
 use Rattle.std.proofs.lemmas.List.Elements.{All-head, All-tail}
 use Rattle.sst_num.specs.Spelling.{fixed}
-use Rattle.sst_num.specs.Reading.{fixed_at}
+use Rattle.sst_num.specs.NumberReading.{fixed_at}
 use Rattle.sst_num.proofs.FixedAt.{fixed_at-found, fixed_at-joined}
 use Rattle.sst_block.specs.declared.fault.BlockFault.{BlockFault}
 use Rattle.sst_block.specs.declared.fault.BlockFault.TheVariants.{BadRestart}
 use Rattle.sst_block.specs.Block.{Spelled, SharesFronts, row_spelling, fresh_starts, AreRestarts}
-use Rattle.sst_block.specs.Reading.{number_where, may_follow, by_number, restart_fault, restarts_fault}
+use Rattle.sst_block.specs.BlockReading.{number_where, may_follow, by_number, restart_fault, restarts_fault}
 use Rattle.sst_block.proofs.RestartsRead.{Rises, number_where-fixed, number_where-found}
 use Rattle.sst_block.proofs.RestartRules.{restarts-parts, restarts-from_parts, restarts-within}
 

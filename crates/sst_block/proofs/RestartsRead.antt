@@ -6,11 +6,11 @@ use Rattle.std.proofs.lemmas.List.{drop-drop}
 use Rattle.std.proofs.lemmas.List.Elements.{All-head, All-tail}
 use Rattle.std.proofs.lemmas.Option.{cond_some, option_and_then_some}
 use Rattle.sst_num.specs.Spelling.{fixed}
-use Rattle.sst_num.specs.Reading.{fixed_at}
+use Rattle.sst_num.specs.NumberReading.{fixed_at}
 use Rattle.sst_num.proofs.FixedAt.{fixed_at-fixed, fixed_at-joined}
 use Rattle.sst_block.specs.declared.fault.BlockFault.{BlockFault}
 use Rattle.sst_block.specs.declared.fault.BlockFault.TheVariants.{BadRestart}
-use Rattle.sst_block.specs.Reading.{number_where, may_follow, by_number, restart_fault, restarts_fault}
+use Rattle.sst_block.specs.BlockReading.{number_where, may_follow, by_number, restart_fault, restarts_fault}
 
 -- each restart may follow the one before it
 abbrev pub Rises : List ℕ → ℕ → List ℕ → Type 0

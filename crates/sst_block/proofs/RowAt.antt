@@ -5,11 +5,11 @@ use Rattle.std.proofs.lemmas.Bool.{le-leb, leb-true, and_parts, and_from, cond-t
 use Rattle.std.proofs.lemmas.List.{take-append-drop, take-take, take_at, drop_at, drop-drop, length-take-le}
 use Rattle.std.proofs.lemmas.Option.{cond_some, same_Some, option_and_then_some}
 use Rattle.sst_num.specs.Spelling.{varint}
-use Rattle.sst_num.specs.Reading.{varint32_at}
+use Rattle.sst_num.specs.NumberReading.{varint32_at}
 use Rattle.sst_num.proofs.Groups.{varint-some}
-use Rattle.sst_num.proofs.Reading.{varint32_at-varint, varint32_at-found}
+use Rattle.sst_num.proofs.NumberReading.{varint32_at-varint, varint32_at-found}
 use Rattle.sst_block.specs.Block.{Spelled, common, row_spelling}
-use Rattle.sst_block.specs.Reading.{Lengths, lengths_at, are_within, row_by, row_of_lengths, row_at}
+use Rattle.sst_block.specs.BlockReading.{Lengths, lengths_at, are_within, row_by, row_of_lengths, row_at}
 use Rattle.sst_block.proofs.Fronts.{common-same, common-take, common-le_left, common-le_right}
 
 -- the three lengths are read again, whatever follows

@@ -7,8 +7,8 @@ use Rattle.sst_block.specs.declared.fault.BlockFault.{BlockFault}
 use Rattle.sst_block.specs.declared.fault.BlockFault.TheVariants.{BadRow, Disorder, BadKind, BadHandle}
 use Rattle.sst_block.specs.Block.{Spelled, row_spelling}
 use Rattle.sst_block.specs.Builder.{HasNoFlags, last_key}
-use Rattle.sst_block.specs.FirstFault.{rows_of, HasGoodLengths, BeginsNoRow, BeginsRow, IsRowFault}
-use Rattle.sst_block.specs.Reading.{has_tag, is_internal_key, is_handle, is_after, or_fault, row_fault, key_before, unless, sound_row, row_at, row_read}
+use Rattle.sst_block.specs.FirstFault.{rows_spelled, HasGoodLengths, BeginsNoRow, BeginsRow, IsRowFault}
+use Rattle.sst_block.specs.BlockReading.{has_tag, is_internal_key, is_handle, is_after, or_fault, row_fault, key_before, unless, sound_row, row_at, row_read}
 use Rattle.sst_block.proofs.Follows.{last_of, last-key, ordered-last}
 use Rattle.sst_block.proofs.RowAt.{row_at-spelled, row_at-found, RowStands}
 use Rattle.sst_block.proofs.RowForms.{internal_key-passes, internal_key-from, handle-passes, handle-from}
@@ -64,22 +64,22 @@ no-tag form before bytes r is tag short s after joined good =
 
 -- a row that is read, and the place of its fault
 record Failing (form : RowForm) (good : List Spelled) (at : ℕ) (bytes : List ℕ) (r : Spelled × ℕ) : Type 0 where
-  read : row_at (last_key [] (rows_of good)) bytes ≡ Some r
-  stands : RowStands (last_key [] (rows_of good)) bytes r.0 r.1
+  read : row_at (last_key [] (rows_spelled good)) bytes ≡ Some r
+  stands : RowStands (last_key [] (rows_spelled good)) bytes r.0 r.1
 
 entries-fault : (good : List Spelled) (at : ℕ) (bytes : List ℕ) (r : Spelled × ℕ) (fault : BlockFault) → Failing Entries good at bytes r
-    → FirstFailed (nat_lt (length r.0.row.key) 8) (is_internal_key r.0.row.key) (is_after Entries (last_of None (rows_of good)) r.0.row.key) (BadRow at) (BadKind at) (Disorder at) fault
+    → FirstFailed (nat_lt (length r.0.row.key) 8) (is_internal_key r.0.row.key) (is_after Entries (last_of None (rows_spelled good)) r.0.row.key) (BadRow at) (BadKind at) (Disorder at) fault
     → IsRowFault Entries good at bytes fault
 entries-fault good at bytes r fault failing (lengths_failed short is) =
     subst (λ (f : BlockFault). IsRowFault Entries good at bytes f) is
-    (refl, no-tag Entries (last_key [] (rows_of good)) bytes r failing.read refl (ltb-true (length r.0.row.key) 8 short))
+    (refl, no-tag Entries (last_key [] (rows_spelled good)) bytes r failing.read refl (ltb-true (length r.0.row.key) 8 short))
 entries-fault good at bytes r fault failing (form_failed long misformed is) =
     subst (λ (f : BlockFault). IsRowFault Entries good at bytes f) is (
       refl,
       refl,
       (
         r.0,
-        begins Entries (last_key [] (rows_of good)) bytes r.0 r.1 failing.stands (λ tag. ltb-false (length r.0.row.key) 8 long),
+        begins Entries (last_key [] (rows_spelled good)) bytes r.0 r.1 failing.stands (λ tag. ltb-false (length r.0.row.key) 8 long),
         λ key. both_ways (is_internal_key r.0.row.key) misformed (internal_key-passes r.0.row.key key),
       ),
     )
@@ -88,25 +88,25 @@ entries-fault good at bytes r fault failing (order_failed long formed unordered 
       refl,
       (
         r.0,
-        begins Entries (last_key [] (rows_of good)) bytes r.0 r.1 failing.stands (λ tag. ltb-false (length r.0.row.key) 8 long),
+        begins Entries (last_key [] (rows_spelled good)) bytes r.0 r.1 failing.stands (λ tag. ltb-false (length r.0.row.key) 8 long),
         internal_key-from r.0.row.key formed,
-        λ ordered. both_ways (is_after Entries (last_of None (rows_of good)) r.0.row.key) unordered (ordered-last Entries (rows_of good) r.0.row ordered),
+        λ ordered. both_ways (is_after Entries (last_of None (rows_spelled good)) r.0.row.key) unordered (ordered-last Entries (rows_spelled good) r.0.row ordered),
       ),
     )
 
 handles-fault : (good : List Spelled) (at : ℕ) (bytes : List ℕ) (r : Spelled × ℕ) (fault : BlockFault) → Failing (Index false false) good at bytes r
-    → FirstFailed (nat_lt (length r.0.row.key) 8) (is_handle r.0.row.value) (is_after (Index false false) (last_of None (rows_of good)) r.0.row.key) (BadRow at) (BadHandle at) (Disorder at) fault
+    → FirstFailed (nat_lt (length r.0.row.key) 8) (is_handle r.0.row.value) (is_after (Index false false) (last_of None (rows_spelled good)) r.0.row.key) (BadRow at) (BadHandle at) (Disorder at) fault
     → IsRowFault (Index false false) good at bytes fault
 handles-fault good at bytes r fault failing (lengths_failed short is) =
     subst (λ (f : BlockFault). IsRowFault (Index false false) good at bytes f) is
-    (refl, no-tag (Index false false) (last_key [] (rows_of good)) bytes r failing.read refl (ltb-true (length r.0.row.key) 8 short))
+    (refl, no-tag (Index false false) (last_key [] (rows_spelled good)) bytes r failing.read refl (ltb-true (length r.0.row.key) 8 short))
 handles-fault good at bytes r fault failing (form_failed long misformed is) =
     subst (λ (f : BlockFault). IsRowFault (Index false false) good at bytes f) is (
       refl,
       tt,
       (
         r.0,
-        begins (Index false false) (last_key [] (rows_of good)) bytes r.0 r.1 failing.stands (λ tag. ltb-false (length r.0.row.key) 8 long),
+        begins (Index false false) (last_key [] (rows_spelled good)) bytes r.0 r.1 failing.stands (λ tag. ltb-false (length r.0.row.key) 8 long),
         λ handle. both_ways (is_handle r.0.row.value) misformed (handle-passes r.0.row.value handle),
       ),
     )
@@ -115,14 +115,14 @@ handles-fault good at bytes r fault failing (order_failed long formed unordered 
       refl,
       (
         r.0,
-        begins (Index false false) (last_key [] (rows_of good)) bytes r.0 r.1 failing.stands (λ tag. ltb-false (length r.0.row.key) 8 long),
+        begins (Index false false) (last_key [] (rows_spelled good)) bytes r.0 r.1 failing.stands (λ tag. ltb-false (length r.0.row.key) 8 long),
         (ltb-false (length r.0.row.key) 8 long, handle-from r.0.row.value formed),
-        λ ordered. both_ways (is_after (Index false false) (last_of None (rows_of good)) r.0.row.key) unordered (ordered-last (Index false false) (rows_of good) r.0.row ordered),
+        λ ordered. both_ways (is_after (Index false false) (last_of None (rows_spelled good)) r.0.row.key) unordered (ordered-last (Index false false) (rows_spelled good) r.0.row ordered),
       ),
     )
 
 names-fault : (good : List Spelled) (at : ℕ) (bytes : List ℕ) (r : Spelled × ℕ) (fault : BlockFault) → Failing Names good at bytes r
-    → FirstFailed false true (is_after Names (last_of None (rows_of good)) r.0.row.key) (BadRow at) (BadRow at) (Disorder at) fault
+    → FirstFailed false true (is_after Names (last_of None (rows_spelled good)) r.0.row.key) (BadRow at) (BadRow at) (Disorder at) fault
     → IsRowFault Names good at bytes fault
 names-fault good at bytes r fault failing (lengths_failed short is) = cc
 names-fault good at bytes r fault failing (form_failed long misformed is) = cc
@@ -131,37 +131,37 @@ names-fault good at bytes r fault failing (order_failed long formed unordered is
       refl,
       (
         r.0,
-        begins Names (last_key [] (rows_of good)) bytes r.0 r.1 failing.stands (λ tag. cc),
+        begins Names (last_key [] (rows_spelled good)) bytes r.0 r.1 failing.stands (λ tag. cc),
         tt,
-        λ ordered. both_ways (is_after Names (last_of None (rows_of good)) r.0.row.key) unordered (ordered-last Names (rows_of good) r.0.row ordered),
+        λ ordered. both_ways (is_after Names (last_of None (rows_spelled good)) r.0.row.key) unordered (ordered-last Names (rows_spelled good) r.0.row ordered),
       ),
     )
 
 some-row-fault : (form : RowForm) (good : List Spelled) (at : ℕ) (bytes : List ℕ) (r : Spelled × ℕ) (fault : BlockFault) → HasNoFlags form
-    → Failing form good at bytes r → row_fault form at (last_of None (rows_of good)) r.0.row ≡ Some fault → IsRowFault form good at bytes fault
+    → Failing form good at bytes r → row_fault form at (last_of None (rows_spelled good)) r.0.row ≡ Some fault → IsRowFault form good at bytes fault
 some-row-fault Entries good at bytes r fault plain failing is =
     entries-fault good at bytes r fault failing (tests-failed _ _ _ _ _ _ fault is)
 some-row-fault Names good at bytes r fault plain failing is =
-    names-fault good at bytes r fault failing (tests-failed false true (is_after Names (last_of None (rows_of good)) r.0.row.key) (BadRow at) (BadRow at) (Disorder at) fault is)
+    names-fault good at bytes r fault failing (tests-failed false true (is_after Names (last_of None (rows_spelled good)) r.0.row.key) (BadRow at) (BadRow at) (Disorder at) fault is)
 some-row-fault (Index true delta) good at bytes r fault plain failing is = absurd plain
 some-row-fault (Index false true) good at bytes r fault plain failing is = absurd plain
 some-row-fault (Index false false) good at bytes r fault plain failing is =
     handles-fault good at bytes r fault failing (tests-failed _ _ _ _ _ _ fault is)
 
 read-fault : (form : RowForm) (good : List Spelled) (at : ℕ) (bytes : List ℕ) (read : Option (Spelled × ℕ)) (fault : BlockFault) → HasNoFlags form
-    → row_at (last_key [] (rows_of good)) bytes ≡ read → sound_row form at (last_of None (rows_of good)) read ≡ Err fault
+    → row_at (last_key [] (rows_spelled good)) bytes ≡ read → sound_row form at (last_of None (rows_spelled good)) read ≡ Err fault
     → IsRowFault form good at bytes fault
 read-fault form good at bytes None fault plain read is =
     let same : BadRow at ≡ fault = cc in
-    subst (λ (f : BlockFault). IsRowFault form good at bytes f) same (refl, no-row form (last_key [] (rows_of good)) bytes read)
+    subst (λ (f : BlockFault). IsRowFault form good at bytes f) same (refl, no-row form (last_key [] (rows_spelled good)) bytes read)
 read-fault form good at bytes (Some r) fault plain read is =
-    some-row-fault form good at bytes r fault plain (record { read = read; stands = row_at-found (last_key [] (rows_of good)) bytes r.0 r.1 read })
-    (unless_err r (row_fault form at (last_of None (rows_of good)) r.0.row) fault is)
+    some-row-fault form good at bytes r fault plain (record { read = read; stands = row_at-found (last_key [] (rows_spelled good)) bytes r.0 r.1 read })
+    (unless_err r (row_fault form at (last_of None (rows_spelled good)) r.0.row) fault is)
 
 -- the fault that is read of a row behind good rows is the row's first
 pub row_read-fault : (form : RowForm) (good : List Spelled) (at : ℕ) (bytes : List ℕ) (fault : BlockFault) → HasNoFlags form
-    → row_read form at (last_of None (rows_of good)) bytes ≡ Err fault → IsRowFault form good at bytes fault
+    → row_read form at (last_of None (rows_spelled good)) bytes ≡ Err fault → IsRowFault form good at bytes fault
 unfolding row_read
 row_read-fault form good at bytes fault plain is =
-    read-fault form good at bytes (row_at (key_before (last_of None (rows_of good))) bytes) fault plain
-    (ap (λ (key : List ℕ). row_at key bytes) (sym (last-key None (rows_of good)))) is
+    read-fault form good at bytes (row_at (key_before (last_of None (rows_spelled good))) bytes) fault plain
+    (ap (λ (key : List ℕ). row_at key bytes) (sym (last-key None (rows_spelled good)))) is

@@ -5,11 +5,11 @@ use Rattle.std.proofs.lemmas.Bool.{cases_lt, lt-ltb, le-ltb, ltb-false, eqb-true
 use Rattle.std.proofs.lemmas.List.{take-append-drop, take_all, nil_from_length}
 use Rattle.std.proofs.lemmas.Option.{same_Some}
 use Rattle.sst_num.specs.Spelling.{fixed, fixed_value, handle_spelling}
-use Rattle.sst_num.specs.Reading.{fixed_at, handle_at}
+use Rattle.sst_num.specs.NumberReading.{fixed_at, handle_at}
 use Rattle.sst_num.specs.declared.block_handle.Handle.{Handle}
 use Rattle.sst_num.proofs.Fixed.{length-fixed}
 use Rattle.sst_num.proofs.FixedAt.{fixed_at-fixed, fixed_at-found, fixed_at-value}
-use Rattle.sst_num.proofs.Reading.{handle_at-handle, handle_at-found}
+use Rattle.sst_num.proofs.NumberReading.{handle_at-handle, handle_at-found}
 use Rattle.sst_key.specs.declared.entries.Kind.{Kind}
 use Rattle.sst_key.specs.declared.entries.Kind.TheVariants.{Deletion, Value, Merge, SingleDeletion}
 use Rattle.sst_key.specs.Entry.{kind_number, tag, internal_key}
@@ -21,7 +21,7 @@ use Rattle.sst_block.specs.declared.fault.BlockFault.{BlockFault}
 use Rattle.sst_block.specs.declared.fault.BlockFault.TheVariants.{BadRow, Disorder, BadKind, BadHandle}
 use Rattle.sst_block.specs.Block.{Row, IsInternalKey, IsHandle, HasForm}
 use Rattle.sst_block.specs.Builder.{HasNoFlags}
-use Rattle.sst_block.specs.Reading.{is_internal_key, is_whole, is_handle, is_after, or_fault, row_fault}
+use Rattle.sst_block.specs.BlockReading.{is_internal_key, is_whole, is_handle, is_after, or_fault, row_fault}
 
 -- the kind of a number, and the number of a kind
 kind_numbered-number : (kind : Kind) → kind_numbered (kind_number kind) ≡ Some kind

@@ -7,12 +7,12 @@ use Rattle.std.proofs.Math.Seq.{drop-append_seam}
 use Rattle.sst_block.proofs.Meeting.{both}
 use Rattle.std.proofs.lemmas.Option.{none-some, option_and_then_some}
 use Rattle.sst_num.specs.Spelling.{varint}
-use Rattle.sst_num.specs.Reading.{varint_at, varint32_at, in_32_bits}
-use Rattle.sst_num.proofs.Reading.{varint_at-found}
+use Rattle.sst_num.specs.NumberReading.{varint_at, varint32_at, in_32_bits}
+use Rattle.sst_num.proofs.NumberReading.{varint_at-found}
 use Rattle.sst_block.specs.declared.row_form.RowForm.{RowForm}
 use Rattle.sst_block.specs.declared.fault.BlockFault.{BlockFault}
 use Rattle.sst_block.specs.Block.{Spelled, row_spelling}
-use Rattle.sst_block.specs.Reading.{Lengths, lengths_at, are_within, row_by, row_of_lengths, row_at, sound_row, row_fault, row_read, unless, key_before}
+use Rattle.sst_block.specs.BlockReading.{Lengths, lengths_at, are_within, row_by, row_of_lengths, row_at, sound_row, row_fault, row_read, unless, key_before}
 
 in_32_bits-same : (inner read : ℕ × ℕ) → in_32_bits inner ≡ Some read → inner ≡ read
 in_32_bits-same inner read e =

@@ -7,8 +7,8 @@ use Rattle.sst_block.specs.declared.row_form.RowForm.{RowForm}
 use Rattle.sst_block.specs.declared.fault.BlockFault.{BlockFault}
 use Rattle.sst_block.specs.Block.{Spelled, common, row_spelling, IsRow}
 use Rattle.sst_block.specs.Builder.{HasNoFlags}
-use Rattle.sst_block.specs.FirstFault.{rows_of}
-use Rattle.sst_block.specs.Reading.{is_after, row_fault, key_before, unless, then_read, sound_row, row_at, row_read, onto_rows, rows_from}
+use Rattle.sst_block.specs.FirstFault.{rows_spelled}
+use Rattle.sst_block.specs.BlockReading.{is_after, row_fault, key_before, unless, then_read, sound_row, row_at, row_read, onto_rows, rows_from}
 use Rattle.sst_block.proofs.BlockLaws.{row_spelling-some}
 use Rattle.sst_block.proofs.Follows.{Follows, last_of}
 use Rattle.sst_block.proofs.RowAt.{value-within, row_at-spelled, row_at-found, RowStands}
@@ -116,7 +116,7 @@ pub record RowsEnd (form : RowForm) (at : ℕ) (before : Option (List ℕ)) (byt
   pub joined : bytes ≡ flat_map row_spelling good ++ rest
   pub follows : Follows form before good
   pub some : 0 < length rest
-  pub reads : row_read form (at + length (flat_map row_spelling good)) (last_of before (rows_of good)) rest ≡ Err fault
+  pub reads : row_read form (at + length (flat_map row_spelling good)) (last_of before (rows_spelled good)) rest ≡ Err fault
 
 -- the row that was read as a fault is the first
 pub rows_from-fault : (n : ℕ) (form : RowForm) (at : ℕ) (before : Option (List ℕ)) (bytes : List ℕ) (fault : BlockFault)
@@ -151,14 +151,14 @@ rows_from-fault (suc n) form at before (b ∷ bytes) fault plain within is =
           ∙ sym (append_assoc (row_spelling read.0) (flat_map row_spelling more.good) more.rest);
       follows = (found.stands.shares, found.is_row, found.follows, more.follows);
       some = more.some;
-      reads = subst (λ (p : ℕ). row_read form p (last_of (Some read.0.row.key) (rows_of more.good)) more.rest ≡ Err fault) place more.reads;
+      reads = subst (λ (p : ℕ). row_read form p (last_of (Some read.0.row.key) (rows_spelled more.good)) more.rest ≡ Err fault) place more.reads;
     })
     (λ rows others wrong. cc))
 
 -- a fault behind rows that may follow one another is read
 pub rows_from-faulty : (form : RowForm) (good : List Spelled) (n at : ℕ) (before : Option (List ℕ)) (rest : List ℕ) (fault : BlockFault)
     → HasNoFlags form → Follows form before good → length (flat_map row_spelling good ++ rest) ≤ n → n < 2 ^ 32 → 0 < length rest
-    → row_read form (at + length (flat_map row_spelling good)) (last_of before (rows_of good)) rest ≡ Err fault
+    → row_read form (at + length (flat_map row_spelling good)) (last_of before (rows_spelled good)) rest ≡ Err fault
     → rows_from n form at before (flat_map row_spelling good ++ rest) ≡ Err fault
 rows_from-faulty form [] zero at before rest fault plain follows within fits some reads = absurd (omega arith)
 rows_from-faulty form [] (suc n) at before rest fault plain follows within fits some reads =
@@ -176,7 +176,7 @@ rows_from-faulty form (s ∷ good) (suc n) at before rest fault plain follows wi
     let here = row_read-spelled form at before others s plain follows.0 follows.1 follows.2 (omega arith) in
     let place : at + length (flat_map row_spelling (s ∷ good)) ≡ at + length (row_spelling s) + length (flat_map row_spelling good) =
     omega (arith, length-append (row_spelling s) (flat_map row_spelling good)) in
-    let moved = subst (λ (p : ℕ). row_read form p (last_of (Some s.row.key) (rows_of good)) rest ≡ Err fault) place reads in
+    let moved = subst (λ (p : ℕ). row_read form p (last_of (Some s.row.key) (rows_spelled good)) rest ≡ Err fault) place reads in
     let later = rows_from-faulty form good n (at + length (row_spelling s)) (Some s.row.key) rest fault plain follows.3 (omega arith) (omega arith) some moved in
     ap (rows_from (suc n) form at before) joined
     ∙ rw (rows_from-step n form at before (row_spelling s ++ others) (omega (arith, length-append (row_spelling s) others)), here, drop-append_seam (row_spelling s) others, later) refl

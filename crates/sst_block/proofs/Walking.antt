@@ -7,7 +7,7 @@ use Rattle.sst_block.specs.declared.row_form.RowForm.{RowForm}
 use Rattle.sst_block.specs.declared.fault.BlockFault.{BlockFault}
 use Rattle.sst_block.specs.declared.iter.BlockIter.{BlockIter}
 use Rattle.sst_block.specs.Block.{Row, Spelled, fresh_starts}
-use Rattle.sst_block.specs.Reading.{Reads, Gives, block_read, parts_read, restart_count, rows_end, restarts_fault, unless, then_read, onto_rows, row_at, row_read, rows_from, rows_read, key_before}
+use Rattle.sst_block.specs.BlockReading.{Reads, Gives, block_read, parts_read, restart_count, rows_end, restarts_fault, unless, then_read, onto_rows, row_at, row_read, rows_from, rows_read, key_before}
 use Rattle.sst_block.specs.Iter.{AreRows, Shows, Walks, IsAt, place_of}
 use Rattle.sst_block.proofs.Meeting.{row-some}
 use Rattle.sst_block.proofs.RowLengths.{row_read-length, row_read-at}

@@ -12,12 +12,12 @@ use Rattle.sst_block.specs.declared.fault.BlockFault.{BlockFault}
 use Rattle.sst_block.specs.declared.fault.BlockFault.TheVariants.{BadRow, BadRestart, BadFooter, Disorder, BadKind, BadHash, BadHandle}
 use Rattle.sst_block.specs.Block.{Row, Spelled, common, row_spelling, SharesFronts, AreRestarts, AreOrdered, IsInternalKey, IsHandle, HasForm, IsRow}
 use Rattle.sst_block.specs.Builder.{last_key}
-use Rattle.sst_block.specs.Reading.{has_tag}
+use Rattle.sst_block.specs.BlockReading.{has_tag}
 
 -- the rows without their spelling
 -- Own.
-abbrev pub rows_of : List Spelled → List Row
-rows_of spelled = map (λ (s : Spelled). s.row) spelled
+abbrev pub rows_spelled : List Spelled → List Row
+rows_spelled spelled = map (λ (s : Spelled). s.row) spelled
 
 -- the bytes end with the number of restarts, which is one at least, and have room for them before it
 -- RocksDB: block.cc, Block::NumRestarts
@@ -33,8 +33,8 @@ pub record HasFooter (bytes : List ℕ) (count : ℕ) : Type 0 where
 -- Own.
 pub record AreSound (form : RowForm) (spelled : List Spelled) : Type 0 where
   pub fronts : SharesFronts [] spelled
-  pub forms : All (IsRow form) (rows_of spelled)
-  pub ordered : AreOrdered form (rows_of spelled)
+  pub forms : All (IsRow form) (rows_spelled spelled)
+  pub ordered : AreOrdered form (rows_spelled spelled)
 
 -- the lengths of a row are good: it shares no more with the key before than they have in common, its key isn't too
 -- long, its value's length is a number of 32 bits, and a key with a tag has the eight bytes of it
@@ -71,13 +71,13 @@ HasHandles (Index user_key delta) = Unit {0}
 -- Own.
 -- Pinned by: first_fault_is_first, bad_kinds, handles
 abbrev pub IsRowFault : RowForm → List Spelled → ℕ → List ℕ → BlockFault → Type 0
-IsRowFault form good at bytes (BadRow place) = (place ≡ at) × BeginsNoRow form (last_key [] (rows_of good)) bytes
+IsRowFault form good at bytes (BadRow place) = (place ≡ at) × BeginsNoRow form (last_key [] (rows_spelled good)) bytes
 IsRowFault form good at bytes (BadKind place) =
-    (place ≡ at) × (form ≡ Entries) × ((s : Spelled) × BeginsRow form (last_key [] (rows_of good)) bytes s × (IsInternalKey s.row.key → ⊥))
+    (place ≡ at) × (form ≡ Entries) × ((s : Spelled) × BeginsRow form (last_key [] (rows_spelled good)) bytes s × (IsInternalKey s.row.key → ⊥))
 IsRowFault form good at bytes (BadHandle place) =
-    (place ≡ at) × HasHandles form × ((s : Spelled) × BeginsRow form (last_key [] (rows_of good)) bytes s × (IsHandle s.row.value → ⊥))
+    (place ≡ at) × HasHandles form × ((s : Spelled) × BeginsRow form (last_key [] (rows_spelled good)) bytes s × (IsHandle s.row.value → ⊥))
 IsRowFault form good at bytes (Disorder place) =
-    (place ≡ at) × ((s : Spelled) × BeginsRow form (last_key [] (rows_of good)) bytes s × HasForm form s.row × (AreOrdered form (rows_of good ++ s.row ∷ []) → ⊥))
+    (place ≡ at) × ((s : Spelled) × BeginsRow form (last_key [] (rows_spelled good)) bytes s × HasForm form s.row × (AreOrdered form (rows_spelled good ++ s.row ∷ []) → ⊥))
 IsRowFault form good at bytes (BadRestart i) = ⊥
 IsRowFault form good at bytes BadFooter = ⊥
 IsRowFault form good at bytes (BadHash place) = ⊥

@@ -3,7 +3,7 @@
 use Rattle.std.specs.Prelude.{◌≡◌, ℕ, ◌+◌, true, false, nat_lt, if◌then◌else◌, List, [], ◌∷◌, length, drop, Option, None, Some, slice_get}
 use Rattle.sst_block.specs.declared.iter.BlockIter.{BlockIter}
 use Rattle.sst_block.specs.Block.{Row, Spelled}
-use Rattle.sst_block.specs.Reading.{row_at}
+use Rattle.sst_block.specs.BlockReading.{row_at}
 
 -- the bytes are these rows, one after the other; `before` is the key before the first
 -- RocksDB: block.cc, ParseNextKey

@@ -3,12 +3,12 @@
 -- For proofs alone.
 -- Pinned by: check_block.exact
 use Rattle.std.specs.Prelude.{ℕ, ◌+◌, ◌-◌, ◌==◌, Bool, false, ◌&&◌, nat_lt, if◌then◌else◌, List, [], ◌∷◌, length, drop, Option, None, Some, Result, Ok}
-use Rattle.sst_num.specs.Reading.{fixed_at}
+use Rattle.sst_num.specs.NumberReading.{fixed_at}
 use Rattle.sst_block.specs.declared.row_form.RowForm.{RowForm}
 use Rattle.sst_block.specs.declared.fault.BlockFault.{BlockFault}
 use Rattle.sst_block.specs.declared.check.Restarts.{Restarts}
 use Rattle.sst_block.specs.Block.{Spelled, row_spelling}
-use Rattle.sst_block.specs.Reading.{then_read, rows_read}
+use Rattle.sst_block.specs.BlockReading.{then_read, rows_read}
 
 -- the restarts that aren't met yet: how many they are, the last one that was met, and their bytes
 pub record Open : Type 0 where

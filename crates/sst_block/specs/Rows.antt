@@ -1,12 +1,12 @@
--- The names that the code's own values have in the reading of a block (specs/Reading.antt). Nothing is promised here.
+-- The names that the code's own values have in the reading of a block (specs/BlockReading.antt). Nothing is promised here.
 -- For proofs alone.
 -- Pinned by: check_block.exact
 use Rattle.std.specs.Prelude.{◌≡◌, ℕ, ◌+◌, length, Bool, true, List, Option, None, Some, option_map, ◌<◌, ◌≤◌, if◌then◌else◌}
 use Rattle.sst_block.specs.declared.row.Lengths.{Lengths}
 use Rattle.sst_block.specs.Block.{Spelled}
-use Rattle.sst_block.specs.Reading as reading
+use Rattle.sst_block.specs.BlockReading as reading
 use Rattle.sst_block.specs.declared.row_form.RowForm.{RowForm}
-use Rattle.sst_block.specs.Reading.{row_by, has_tag}
+use Rattle.sst_block.specs.BlockReading.{row_by, has_tag}
 
 -- the lengths as numbers
 abbrev pub numbers : Lengths → reading.Lengths

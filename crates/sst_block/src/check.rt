@@ -4,8 +4,8 @@ ghost use Rattle.sst_block.specs.Block.{Row, Block};
 ghost use Rattle.sst_block.specs.FirstFault.{IsFirstFault};
 ghost use Rattle.sst_block.specs.declared.fault.BlockFault as faults;
 ghost use Rattle.sst_block.specs.Builder.{HasNoFlags};
-ghost use Rattle.sst_block.specs.Reading as reading;
-ghost use Rattle.sst_block.specs.Reading.{Gives, block_read, parts_read, then_read, with_restarts, rows_read, rows_end};
+ghost use Rattle.sst_block.specs.BlockReading as reading;
+ghost use Rattle.sst_block.specs.BlockReading.{Gives, block_read, parts_read, then_read, with_restarts, rows_read, rows_end};
 ghost use Rattle.sst_block.specs.Restarts as restarts;
 ghost use Rattle.sst_block.specs.Restarts.{Open, met, met_by, open_of, rows_counted};
 
@@ -162,7 +162,7 @@ fn check_parts(
 }
 
 /// The number of rows of a block, or its first fault: `check_block` by its clause `exact`, from which the others follow.
-#[tactic(auto, unfolding(crate::specs::Reading::block_read))]
+#[tactic(auto, unfolding(crate::specs::BlockReading::block_read))]
 fn count_rows(alloc: Global, block: &[u8], form: RowForm) -> Result<u32, Refused<BlockFault>>
     requires short { length block.now ≤ 2 ^ 29 }
     requires form { HasNoFlags form }

@@ -4,7 +4,7 @@ ghost use Rattle.sst_block.specs.Block.{Row, Spelled, Block, IsRow, AreOrdered, 
 ghost use Rattle.sst_block.specs.Builder.{HasNoFlags};
 ghost use Rattle.sst_block.specs.Chosen.{block_of, chosen};
 ghost use Rattle.sst_block.specs.FirstFault.{IsFirstFault};
-ghost use Rattle.sst_block.specs.Reading.{block_read, Reads};
+ghost use Rattle.sst_block.specs.BlockReading.{block_read, Reads};
 ghost use Rattle.sst_block.specs.declared.fault.BlockFault.{BlockFault};
 ghost use Rattle.sst_block.specs.declared.row_form.RowForm.{RowForm};
 

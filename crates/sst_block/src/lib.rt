@@ -46,7 +46,7 @@
 //!   that block stands for them ([`chosen_block_stands_for_its_rows`], [`each_group_begins_whole`]). It knows the length of the
 //!   block that it would make now ([`BlockBuilder::size_now`]). Once memory ran out, each later call that can fail answers so.
 //! - [`check_block`] says of any bytes how many rows they have as a block of some form, or their first damage (`block_read`,
-//!   specs/Reading.antt, which has the order). Nothing of a block is taken on trust. How much of a common front a row shares,
+//!   specs/BlockReading.antt, which has the order). Nothing of a block is taken on trust. How much of a common front a row shares,
 //!   and which of the rows that share nothing are restarts, is free.
 //! - What is read is what the bytes stand for (`Block`, specs/Block.antt), whoever made them
 //!   ([`reading_finds_exactly_the_rows`], [`a_block_has_one_list_of_rows`], [`first_fault_is_first`]).

@@ -1,8 +1,8 @@
 //! One row of a block: its lengths, its key and its value, and what can be wrong with them.
 ghost use Rattle.std.specs.Prelude.{◌≡◌, ◌⊎◌, ℕ, ◌+◌, ◌<◌, ◌≤◌, ◌^◌, true, false, List, [], ◌++◌, length, take, drop, IfSome, IfNone, IfOk, IfErr, Ok, Err, option_map};
 ghost use Rattle.sst_block.specs.Block as blocks;
-ghost use Rattle.sst_block.specs.Reading as reading;
-ghost use Rattle.sst_block.specs.Reading.{then_read, lengths_at, row_at, row_fault, row_read};
+ghost use Rattle.sst_block.specs.BlockReading as reading;
+ghost use Rattle.sst_block.specs.BlockReading.{then_read, lengths_at, row_at, row_fault, row_read};
 ghost use Rattle.sst_block.specs.Rows.{numbers, spelled_lengths, key_held, row_lent, FitsIn, IsLongEnough, row_length};
 
 use crate::fault::BlockFault;
@@ -25,7 +25,7 @@ pub struct Lengths {
 }
 
 /// Reads the lengths of the row at the front. RocksDB: `DecodeEntry` in table/block_based/block.cc.
-#[tactic(auto, unfolding(crate::specs::Reading::lengths_at))]
+#[tactic(auto, unfolding(crate::specs::BlockReading::lengths_at))]
 fn take_lengths(bytes: &[u8]) -> Option<Lengths>
     ensures exact { spelled_lengths result ≡ lengths_at bytes.now }
     ensures within { IfSome result (λ l. (l.shared < 2 ^ 32) × (l.rest < 2 ^ 32) × (l.value < 2 ^ 32) × (0 < l.used) × (l.used ≤ length bytes.now)) }
@@ -72,7 +72,7 @@ fn has_tag(form: RowForm) -> bool
 }
 
 /// The lengths of the row at the front, if they agree with the key before and the bytes that are there.
-#[tactic(auto, unfolding(crate::specs::Reading::row_at))]
+#[tactic(auto, unfolding(crate::specs::BlockReading::row_at))]
 pub fn row_lengths(before: &[u8], bytes: &[u8]) -> Option<Lengths>
     ensures exact { option_map (row_lent before.now bytes.now) result ≡ row_at before.now bytes.now }
     ensures within { IfSome result (λ l. FitsIn (length before.now) (length bytes.now) l) }
@@ -205,7 +205,7 @@ fn join_key(next: &mut KeyRoom, before: &[u8], shared: usize, rest: &[u8])
 
 /// Reads the row at the front, whose key `next` holds then. `before` holds the key before, or none where the row
 /// is the first; `at` is where the row begins.
-#[tactic(auto, unfolding(crate::specs::Reading::row_read))]
+#[tactic(auto, unfolding(crate::specs::BlockReading::row_read))]
 pub fn read_row(
     form: RowForm,
     at: u32,

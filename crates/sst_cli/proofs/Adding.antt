@@ -6,7 +6,7 @@ use Rattle.std.proofs.lemmas.Bool.{lt-ltb}
 use Rattle.sst_bbt_write.specs.declared.bbt_options.BbtOptions.{BbtOptions}
 use Rattle.sst_bbt_write.specs.declared.bbt_writer.BbtWriter.{BbtWriter}
 use Rattle.sst_bbt_write.specs.After.{After}
-use Rattle.sst_cli.specs.Reading.{read_line}
+use Rattle.sst_cli.specs.InputReading.{read_line}
 use Rattle.sst_cli.specs.ReadingResult.{HoldsInput}
 use Rattle.sst_bbt_write.proofs.Rows.{weight-append}
 use Rattle.sst_cli.proofs.ReadFrom.{IsLimited}

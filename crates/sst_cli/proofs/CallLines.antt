@@ -13,7 +13,7 @@ use Rattle.sst_cli.specs.declared.input.entries.InputStop.{InputStop}
 use Rattle.sst_cli.specs.declared.input.entries.InputStop.TheVariants as stop
 use Rattle.sst_text.specs.Texts.{cut, bytes_field, seq_field}
 use Rattle.sst_text.specs.CallText.{target_of_user, target_of, plain_call, call_to, call_of_parts, call_of_line, target_in, IsTargetInLimits, IsInLimits, IsOfBytes}
-use Rattle.sst_cli.specs.Reading.{read_call, by_call, refused_at}
+use Rattle.sst_cli.specs.InputReading.{read_call, by_call, refused_at}
 use Rattle.sst_cli.specs.ReadingResult.{IsRefused}
 use Rattle.sst_text.proofs.EntryLines.{seq_field-some, bytes_field-some}
 use Rattle.sst_cli.proofs.ReadFrom.{IsLimited}

@@ -3,7 +3,7 @@ use Rattle.std.proofs.Common.{◌≡◌, ℕ, ◌≤◌, List, [], ◌∷◌, �
 use Rattle.std.proofs.lemmas.List.Elements.{All-push}
 use Rattle.sst_key.specs.declared.calls.Call.{Call}
 use Rattle.sst_text.specs.CallText.{IsInLimits, AreInLimits}
-use Rattle.sst_cli.specs.Reading.{read_call}
+use Rattle.sst_cli.specs.InputReading.{read_call}
 use Rattle.sst_cli.proofs.ReadingOn.{IsReadTo}
 use Rattle.sst_cli.proofs.Taken.{IsPast}
 

@@ -5,7 +5,7 @@ use Rattle.std.proofs.lemmas.List.Elements.{All-head, All-tail}
 use Rattle.sst_key.specs.declared.calls.Call.{Call}
 use Rattle.sst_text.specs.CallText.{call_line, calls_text, IsInLimits, AreInLimits, IsOfBytes, AreOfBytes}
 use Rattle.sst_text.proofs.CallRoundTrip.{call_of_line-call_line, call_line-cut, length-call_line}
-use Rattle.sst_cli.specs.Reading.{read_call, read_from, read_calls}
+use Rattle.sst_cli.specs.InputReading.{read_call, read_from, read_calls}
 use Rattle.sst_cli.proofs.ReadFrom.{read_from-item, read_from-end}
 use Rattle.sst_cli.proofs.CallLines.{call_read}
 

@@ -6,7 +6,7 @@ use Rattle.sst_bbt_spec.specs.Way.{IndexedBlock}
 use Rattle.sst_cli.specs.Behaviour.{World, Outcome, Behaviour, IsFault, InputIs, Ends, Carries, tells, world}
 use Rattle.sst_cli.specs.CallsCommand.{Read, IsRefusedInput, answers_of, calls_command}
 use Rattle.sst_cli.specs.OpenFile.{OpenFile, Absent, Damaged, Opened, file_outcome, on_file}
-use Rattle.sst_cli.specs.Reading.{read_calls}
+use Rattle.sst_cli.specs.InputReading.{read_calls}
 use Rattle.sst_cli.specs.declared.status.Status.{Status}
 use Rattle.sst_cli.specs.declared.status.Status.TheVariants.{Input}
 use Rattle.sst_cli.proofs.OneReading.{not_both}

@@ -13,7 +13,7 @@ use Rattle.sst_bbt_read.proofs.FaultsShown.{blocks_read-fault}
 use Rattle.sst_cli.specs.Behaviour.{World, IsFault, IsWhole, Ends}
 use Rattle.sst_cli.specs.CallsCommand.{Answered, AnsweredByWay, IsDamaged, FoundCalls, Refused, Read, AreFoundCalls, calls_command, calls_outcome}
 use Rattle.sst_cli.specs.OpenFile.{OpenFile, Absent, Damaged, Opened, IsOpenFile}
-use Rattle.sst_cli.specs.Reading.{read_calls}
+use Rattle.sst_cli.specs.InputReading.{read_calls}
 use Rattle.sst_cli.specs.Refusals.{refusal_text}
 use Rattle.sst_cli.specs.Replies.{way_text}
 use Rattle.sst_cli.specs.declared.input.refusal.Refusal.{Refusal}

@@ -14,7 +14,7 @@ use Rattle.sst_key.specs.Entry.{IsOrdered, weight, entry_weight}
 use Rattle.sst_text.specs.Texts.{cut, entry_of_line}
 use Rattle.sst_text.specs.EntryText.{hex_text, kind_letter, entry_line, lines_text, AreBytes}
 use Rattle.sst_bbt_write.specs.Reasons.{is_after, reason}
-use Rattle.sst_cli.specs.Reading.{by_reason, by_entry, read_line, read_from, read_input}
+use Rattle.sst_cli.specs.InputReading.{by_reason, by_entry, read_line, read_from, read_input}
 use Rattle.sst_bbt_write.specs.Written.{IsInLimits, Fits}
 use Rattle.sst_text.proofs.LineEnds.{entry_line-cut, length-hex_text, length-blank}
 use Rattle.sst_text.proofs.LineRoundTrip.{entry_of_line-entry_line}

@@ -6,7 +6,7 @@ use Rattle.sst_device.specs.Folder.{Files}
 use Rattle.sst_cli.specs.Behaviour.{Behaviour, InputIs, tells}
 use Rattle.sst_cli.specs.CallsCommand.{FoundCalls, Refused, Read, AreFoundCalls, answers_of, calls_outcome}
 use Rattle.sst_cli.specs.Command.{Command, Write, Calls, behaviour}
-use Rattle.sst_cli.specs.Reading.{read_calls, read_input}
+use Rattle.sst_cli.specs.InputReading.{read_calls, read_input}
 use Rattle.sst_cli.specs.WriteCommand.{write_outcome}
 use Rattle.sst_cli.specs.OpenFile.{OpenFile, file_outcome}
 use Rattle.sst_cli.specs.declared.input.refusal.Refusal.{Refusal}

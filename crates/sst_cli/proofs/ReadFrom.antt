@@ -9,7 +9,7 @@ use Rattle.sst_cli.specs.declared.input.refusal.Refusal.{Refusal}
 use Rattle.sst_text.specs.Texts.{cut}
 use Rattle.sst_text.specs.Lines.{BeginsLong}
 use Rattle.sst_cli.specs.NextLine.{IsUnended}
-use Rattle.sst_cli.specs.Reading.{result_match, onto_first, pieces_of, refused_at, read_last, read_pieces, read_from}
+use Rattle.sst_cli.specs.InputReading.{result_match, onto_first, pieces_of, refused_at, read_last, read_pieces, read_from}
 use Rattle.sst_text.proofs.Cut.{cut-parts}
 use Rattle.sst_text.proofs.PastLine.{none_first}
 

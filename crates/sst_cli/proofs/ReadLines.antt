@@ -12,7 +12,7 @@ use Rattle.sst_bbt_write.specs.declared.bbt_writer.BbtWriter.{BbtWriter}
 use Rattle.sst_bbt_write.specs.After.{After}
 use Rattle.sst_bbt_write.specs.Reasons.{reason}
 use Rattle.sst_text.specs.Texts.{entry_of_line}
-use Rattle.sst_cli.specs.Reading.{read_line, by_entry, by_reason, refused_at}
+use Rattle.sst_cli.specs.InputReading.{read_line, by_entry, by_reason, refused_at}
 use Rattle.sst_cli.specs.ReadingResult.{HasAdded, IsRefused}
 
 -- an entry is what a view of its parts lends

@@ -7,7 +7,7 @@ use Rattle.sst_cli.specs.declared.input.refusal.Reason.{Reason}
 use Rattle.sst_text.specs.Texts.{cut}
 use Rattle.sst_text.specs.Lines.{IsRead}
 use Rattle.sst_cli.specs.NextLine.{IsNext, HasNoLine}
-use Rattle.sst_cli.specs.Reading.{refused_at, read_from}
+use Rattle.sst_cli.specs.InputReading.{refused_at, read_from}
 use Rattle.sst_cli.specs.ReadingResult.{IsRefused}
 use Rattle.sst_text.proofs.Cut.{cut-append_some, cut-length}
 use Rattle.sst_cli.proofs.ReadFrom.{Says, IsLimited, read_from-item, read_from-refused, read_from-long, read_from-unended, read_from-end}

@@ -11,7 +11,7 @@ use Rattle.sst_cli.specs.declared.input.refusal.Reason.TheVariants as why
 use Rattle.sst_cli.specs.declared.input.refusal.Refusal.{Refusal}
 use Rattle.sst_text.specs.CallText.{call_of_line, IsInLimits, AreInLimits, IsOfBytes, AreOfBytes}
 use Rattle.sst_text.specs.EntryText.{AreBytes}
-use Rattle.sst_cli.specs.Reading.{by_reason, by_entry, by_call, read_line, read_call, read_last, read_pieces, read_from, read_input, read_calls, pieces_of, refused_at, result_match}
+use Rattle.sst_cli.specs.InputReading.{by_reason, by_entry, by_call, read_line, read_call, read_last, read_pieces, read_from, read_input, read_calls, pieces_of, refused_at, result_match}
 use Rattle.sst_bbt_write.specs.Reasons.{reason}
 use Rattle.sst_text.specs.Texts.{entry_of_line}
 use Rattle.sst_bbt_write.specs.Written.{Fits}

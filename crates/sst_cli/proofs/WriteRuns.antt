@@ -5,7 +5,7 @@ use Rattle.sst_key.specs.declared.entries.Entry.{Entry}
 use Rattle.sst_device.specs.Folder.{put_file}
 use Rattle.sst_text.specs.Taken.{IsTakenTo}
 use Rattle.sst_cli.specs.Behaviour.{World, IsFault, IsWhole, Ends}
-use Rattle.sst_cli.specs.Reading.{read_input}
+use Rattle.sst_cli.specs.InputReading.{read_input}
 use Rattle.sst_cli.specs.Refusals.{refusal_text}
 use Rattle.sst_cli.specs.Words.{WriteLine}
 use Rattle.sst_cli.specs.WriteCommand.{Wrote, write_command}

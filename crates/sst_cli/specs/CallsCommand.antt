@@ -14,7 +14,7 @@ use Rattle.sst_device.specs.Folder.{Files}
 use Rattle.sst_text.specs.Taken.{IsTakenTo}
 use Rattle.sst_cli.specs.Behaviour.{Told, Outcome, Behaviour, InputIs}
 use Rattle.sst_cli.specs.OpenFile.{OpenFile, IsOpenFile, done_with, file_outcome}
-use Rattle.sst_cli.specs.Reading.{read_calls}
+use Rattle.sst_cli.specs.InputReading.{read_calls}
 use Rattle.sst_cli.specs.Refusals.{refusal_text}
 use Rattle.sst_cli.specs.Replies.{answers_text, way_text}
 use Rattle.sst_cli.specs.declared.input.refusal.Refusal.{Refusal}

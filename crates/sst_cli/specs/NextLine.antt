@@ -5,7 +5,7 @@ use Rattle.sst_cli.specs.declared.input.refusal.Reason.TheVariants.{LineLong, Li
 use Rattle.sst_cli.specs.declared.input.refusal.Refusal.{Refusal}
 use Rattle.sst_text.specs.Texts.{cut}
 use Rattle.sst_text.specs.Lines.{BeginsLong, IsRead}
-use Rattle.sst_cli.specs.Reading.{refused_at}
+use Rattle.sst_cli.specs.InputReading.{refused_at}
 
 -- how many bytes the line at the front of the unread bytes has before its line end; none where the input has ended
 -- Pinned by: add_lines.ok, read_calls.ok

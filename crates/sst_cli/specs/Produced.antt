@@ -2,7 +2,7 @@
 use Rattle.std.specs.Prelude.{◌≡◌, ℕ, List, [], length, Option, Some, Ok}
 use Rattle.sst_key.specs.declared.entries.Entry.{Entry}
 use Rattle.sst_device.specs.Folder.{Files}
-use Rattle.sst_cli.specs.Reading.{read_input}
+use Rattle.sst_cli.specs.InputReading.{read_input}
 use Rattle.sst_cli.specs.WriteCommand.{HoldsWritten}
 use Rattle.sst_cli.specs.Words.{WriteLine}
 

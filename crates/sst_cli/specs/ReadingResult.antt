@@ -6,7 +6,7 @@ use Rattle.sst_cli.specs.declared.input.refusal.Reason.{Reason}
 use Rattle.sst_bbt_write.specs.declared.bbt_options.BbtOptions.{BbtOptions}
 use Rattle.sst_bbt_write.specs.declared.bbt_writer.BbtWriter.{BbtWriter}
 use Rattle.sst_bbt_write.specs.After.{After}
-use Rattle.sst_cli.specs.Reading.{read_line, read_input, refused_at}
+use Rattle.sst_cli.specs.InputReading.{read_line, read_input, refused_at}
 
 -- the line is an entry that the writer took
 -- Pinned by: add_lines.ok

@@ -7,7 +7,7 @@ use Rattle.sst_device.specs.Folder.{Files, put_file}
 use Rattle.sst_text.specs.Taken.{IsTakenTo}
 use Rattle.sst_bbt_write.specs.Written.{Written}
 use Rattle.sst_cli.specs.Behaviour.{Told, Outcome, Behaviour, InputIs}
-use Rattle.sst_cli.specs.Reading.{read_input}
+use Rattle.sst_cli.specs.InputReading.{read_input}
 use Rattle.sst_cli.specs.Refusals.{refusal_text}
 use Rattle.sst_cli.specs.Words.{WriteLine}
 use Rattle.sst_cli.specs.declared.input.refusal.Refusal.{Refusal}

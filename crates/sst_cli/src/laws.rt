@@ -6,7 +6,7 @@ ghost use Rattle.sst_bbt_write.specs.Written.{Fits, table_of};
 ghost use Rattle.sst_bbt_write.specs.declared.bbt_options.BbtOptions.{BbtOptions};
 ghost use Rattle.sst_text.specs.EntryText.{AreBytes, lines_text};
 ghost use Rattle.sst_text.specs.CallText.{AreInLimits, AreOfBytes, calls_text};
-ghost use Rattle.sst_cli.specs.Reading.{read_input, read_calls};
+ghost use Rattle.sst_cli.specs.InputReading.{read_input, read_calls};
 ghost use Rattle.sst_bbt_spec.specs.Way.{IndexedBlock, joined};
 ghost use Rattle.sst_bbt_read.specs.Opening.{blocks_read};
 ghost use Rattle.sst_bbt_read.specs.TableBlocks.{row_blocks_of};

@@ -13,7 +13,7 @@ ghost use Rattle.sst_cli.specs.Behaviour.{Behaviour, Ends, IsFault, MayPrint, Wo
 ghost use Rattle.sst_cli.specs.CallsCommand.{Answered, AnsweredByWay, IsDamaged, calls_command};
 ghost use Rattle.sst_cli.specs.Command.{Command, behaviour, command_of};
 ghost use Rattle.sst_cli.specs.NoCommand.{no_command, usage_text};
-ghost use Rattle.sst_cli.specs.Reading.{read_calls, read_input};
+ghost use Rattle.sst_cli.specs.InputReading.{read_calls, read_input};
 ghost use Rattle.sst_cli.specs.Refusals.{refusal_text};
 ghost use Rattle.sst_cli.specs.Words as line;
 ghost use Rattle.sst_cli.specs.Words.{WriteLine};

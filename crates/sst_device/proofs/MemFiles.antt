@@ -12,7 +12,7 @@ use Rattle.std.proofs.Math.Seq.{take-append_seam}
 use Rattle.std.proofs.lemmas.List.Quantifiers.{position-Some}
 use Rattle.std.proofs.lemmas.Iterator.Adapters.{position_from-zero}
 use Rattle.sst_device.specs.declared.memory.files.MemFile.{MemFile}
-use Rattle.sst_device.specs.MemFiles.{entry_of, files_of, is_named}
+use Rattle.sst_device.specs.MemFiles.{file_entry, files_of, is_named}
 use Rattle.sst_device.specs.Folder.{Files, written_over, edit_file, changed_file, ends_before, misses}
 use Rattle.sst_device.proofs.Maps.{name_cmp_same, same_name, insert-insert, insert-swap, insert-same}
 
@@ -121,9 +121,9 @@ kept-found name files i old new f same kept =
 pub push-absent : (name : List ℕ) (files : List MemFile) (file : MemFile) → position (is_named name) files ≡ None → string_bytes file.name ≡ name
     → files_of (files ++ file ∷ []) ≡ insert (files_of files) name file.bytes.items
 push-absent name files file none same =
-    ap from_entries (map-append entry_of files (file ∷ [])) ∙ ap (λ n. from_entries (map entry_of files ++ (n, file.bytes.items) ∷ [])) same
-    ∙ from_entries_push nat_list_cmp_total name_cmp_same (map entry_of files) name file.bytes.items
-    (sym (get-from_entries nat_list_cmp_total (map entry_of files) name) ∙ get-absent name files none)
+    ap from_entries (map-append file_entry files (file ∷ [])) ∙ ap (λ n. from_entries (map file_entry files ++ (n, file.bytes.items) ∷ [])) same
+    ∙ from_entries_push nat_list_cmp_total name_cmp_same (map file_entry files) name file.bytes.items
+    (sym (get-from_entries nat_list_cmp_total (map file_entry files) name) ∙ get-absent name files none)
 
 -- an edit that writes nothing leaves the folder as it was
 pub edit-none : (name : List ℕ) (held : Files) (change : List ℕ → List ℕ) → ((bytes : List ℕ) → change bytes ≡ bytes) → Some held ≡ edit_file (Some held) name change

@@ -4,7 +4,7 @@ use borrow.Author.Tests.{eqb-true, eq-eqb}
 use Rattle.std.proofs.Math.Seq.{drop-cons}
 use Rattle.std.proofs.lemmas.List.{append-nil, drop-drop, take-take, drop-take, get_or-take}
 use Rattle.sst_num.specs.Spelling.{fixed}
-use Rattle.sst_num.specs.Reading.{fixed_at}
+use Rattle.sst_num.specs.NumberReading.{fixed_at}
 use Rattle.sst_num.specs.declared.block_handle.Handle.{Handle}
 use Rattle.sst_num.proofs.Fixed.{length-fixed}
 use Rattle.sst_num.proofs.FixedAt.{fixed_at-fixed, fixed_at-found}

@@ -3,7 +3,7 @@
 -- in table/block_based/reader_common.cc.
 -- Pinned by: a_stored_block_is_read, blocks_that_are_faults
 use Rattle.std.specs.Prelude.{ℕ, ◌+◌, ◌^◌, ◌==◌, nat_lt, if◌then◌else◌, List, take, drop, slice_index, Option, None, Some, Result, Ok, Err, Bool, false}
-use Rattle.sst_num.specs.Reading.{fixed_at}
+use Rattle.sst_num.specs.NumberReading.{fixed_at}
 use Rattle.sst_num.specs.declared.block_handle.Handle.{Handle}
 use Rattle.sst_sums.specs.Sums.{mask, crc32c}
 use Rattle.sst_device.specs.Framed.{bytes_at}

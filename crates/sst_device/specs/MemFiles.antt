@@ -8,12 +8,12 @@ use Rattle.sst_device.specs.Folder.{Files}
 use Rattle.sst_device.specs.declared.memory.files.MemFile.{MemFile}
 
 -- a file as an entry of the folder: the bytes of its name, and its bytes
-abbrev pub entry_of : MemFile → List ℕ × List ℕ
-entry_of file = (string_bytes file.name, file.bytes.items)
+abbrev pub file_entry : MemFile → List ℕ × List ℕ
+file_entry file = (string_bytes file.name, file.bytes.items)
 
 -- the folder of some files; the first of two files of one name counts
 abbrev pub files_of : List MemFile → Files
-files_of files = from_entries (map entry_of files)
+files_of files = from_entries (map file_entry files)
 
 -- the file has this name
 abbrev pub is_named : List ℕ → MemFile → Bool

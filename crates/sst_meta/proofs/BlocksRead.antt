@@ -5,7 +5,7 @@ use Rattle.sst_block.specs.declared.row_form.RowForm.{RowForm}
 use Rattle.sst_block.specs.declared.fault.BlockFault.{BlockFault}
 use Rattle.sst_block.specs.Block.{Row, Block}
 use Rattle.sst_block.specs.Builder.{HasNoFlags}
-use Rattle.sst_block.specs.Reading.{block_read}
+use Rattle.sst_block.specs.BlockReading.{block_read}
 use Rattle.sst_block.specs.FirstFault.{IsFirstFault}
 use Rattle.sst_block.proofs.BlockRead.{read-complete, read-sound}
 use Rattle.sst_block.proofs.FirstFaults.{read-first, first-read}

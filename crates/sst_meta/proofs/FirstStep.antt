@@ -8,7 +8,7 @@ use Rattle.sst_block.specs.Block.{Row}
 use Rattle.sst_device.specs.Framed.{Framed}
 use Rattle.sst_device.proofs.Choices.{by_test}
 use Rattle.sst_meta.specs.Blocks.{then_open, block_at}
-use Rattle.sst_meta.specs.BlockFooter.{AreBytes, EndsIn, FooterLeads, footer_start}
+use Rattle.sst_meta.specs.BlockFooter.{IsBytes, EndsIn, FooterLeads, footer_start}
 use Rattle.sst_meta.specs.FooterReading.{last_bytes, handles_read}
 use Rattle.sst_meta.specs.LoadReading.{end_read, handle_in, comparator_fault, index_type_fault, global_fault, external_fault, flag_fault, props_fault, sound_props, props_in, props_at, props_read, names_read, load_read}
 use Rattle.sst_meta.specs.LoadSteps.{LoadStep, file_length, magic_number, kind_of_table, format_version, checksum_type, footer_handles, metaindex_frame, metaindex_rows, no_tombstones, props_handle, props_frame, props_rows, key_order, index_type, global_sequence, external_version, user_key_flag, delta_flag, form_is_read, number_of, FailsAt, FailsFirst}
@@ -65,7 +65,7 @@ record EndFails (file : List ℕ) (fault : MetaFault) : Type 0 where
   low : number_of step < 6
   fails : FailsAt file step fault
 
-end-fails : (file : List ℕ) (fault : MetaFault) → AreBytes (last_bytes 53 file) → end_read (last_bytes 53 file) ≡ Err fault → EndFails file fault
+end-fails : (file : List ℕ) (fault : MetaFault) → IsBytes (last_bytes 53 file) → end_read (last_bytes 53 file) ≡ Err fault → EndFails file fault
 end-fails file fault bytes e =
     elim (end_reads file (Err fault) e) [
       | fields kind version between ends last ↦
@@ -98,11 +98,11 @@ end-fails file fault bytes e =
     ]
 
 -- a fault of the end of the file is one that the file shows
-pub end-shown : (file : List ℕ) (fault : MetaFault) → AreBytes (last_bytes 53 file) → end_read (last_bytes 53 file) ≡ Err fault → ShowsMeta file fault
+pub end-shown : (file : List ℕ) (fault : MetaFault) → IsBytes (last_bytes 53 file) → end_read (last_bytes 53 file) ≡ Err fault → ShowsMeta file fault
 end-shown file fault bytes e = let found = end-fails file fault bytes e in fails-shows file found.step fault found.fails
 
 -- its step is the first that fails
-end-first : (file : List ℕ) (fault : MetaFault) → AreBytes (last_bytes 53 file) → Clear file 1 → end_read (last_bytes 53 file) ≡ Err fault → First file fault
+end-first : (file : List ℕ) (fault : MetaFault) → IsBytes (last_bytes 53 file) → Clear file 1 → end_read (last_bytes 53 file) ≡ Err fault → First file fault
 end-first file fault bytes short e =
     let found = end-fails file fault bytes e in
     let low = found.low in (
@@ -125,7 +125,7 @@ end-first file fault bytes short e =
     )
 
 -- and none fails where a footer is read
-clear-end : (file : List ℕ) (footer : Footer) → AreBytes (last_bytes 53 file) → Clear file 1 → end_read (last_bytes 53 file) ≡ Ok footer → Clear file 6
+clear-end : (file : List ℕ) (footer : Footer) → IsBytes (last_bytes 53 file) → Clear file 1 → end_read (last_bytes 53 file) ≡ Ok footer → Clear file 6
 clear-end file footer bytes short e = λ step another low fails.
     elim (cases_lt (number_of step) 1) [
       | inl before ↦ short step another before fails
@@ -247,7 +247,7 @@ names-first file footer fault leads clear e =
     (λ props got last. cc))
 
 -- the fault that is read is the one of the first step that fails
-pub load-first : (file : List ℕ) (fault : MetaFault) → AreBytes (last_bytes 53 file) → load_read file ≡ Err fault → First file fault
+pub load-first : (file : List ℕ) (fault : MetaFault) → IsBytes (last_bytes 53 file) → load_read file ≡ Err fault → First file fault
 unfolding load_read
 load-first file fault bytes e =
     by_test (nat_lt (length file) (2 ^ 40)) (then_open (end_read (last_bytes 53 file)) (names_read file (footer_start file))) _ (Err fault) e
@@ -261,5 +261,5 @@ load-first file fault bytes e =
     (file_length, record { fails = (sym same, ltb-false (length file) (2 ^ 40) test); first = λ s another low fails. absurd (omega (arith, low)) }))
 
 -- so it is one that the file shows
-pub load-shown : (file : List ℕ) (fault : MetaFault) → AreBytes (last_bytes 53 file) → load_read file ≡ Err fault → ShowsMeta file fault
+pub load-shown : (file : List ℕ) (fault : MetaFault) → IsBytes (last_bytes 53 file) → load_read file ≡ Err fault → ShowsMeta file fault
 load-shown file fault bytes e = let found = load-first file fault bytes e in fails-shows file found.0 fault found.1.fails

@@ -4,7 +4,7 @@ use Rattle.std.specs.Option.{option_map}
 use Rattle.std.proofs.lemmas.Bool.{le-leb, eq-eqb, both_ways, and_from}
 use Rattle.std.proofs.lemmas.List.{drop-drop, length-take-le, get_or-drop}
 use Rattle.sst_num.specs.Spelling.{fixed}
-use Rattle.sst_num.specs.Reading.{fixed_at}
+use Rattle.sst_num.specs.NumberReading.{fixed_at}
 use Rattle.sst_num.proofs.Fixed.{length-fixed}
 use Rattle.sst_num.proofs.FixedAt.{fixed_at-found, fixed_at-joined}
 use Rattle.sst_key.specs.declared.calls.Format.{Format}
@@ -17,9 +17,9 @@ use Rattle.sst_meta.proofs.FileEnds.{last_bytes-joined, last_bytes-twice, last_b
 use Rattle.sst_meta.proofs.FooterKinds.{kind_test, IsKind, known, unknown, kind-is}
 use Rattle.sst_meta.proofs.FooterReads.{later-reads}
 use Rattle.sst_meta.specs.LoadReading.{by_format, end_read}
-use Rattle.sst_meta.specs.BlockFooter.{EndsWith, IsTable, IsOtherTable, EndsIn, AreBytes}
+use Rattle.sst_meta.specs.BlockFooter.{EndsWith, IsTable, IsOtherTable, EndsIn, IsBytes}
 
-pub are_bytes-drop : (n : ℕ) (bytes : List ℕ) → AreBytes bytes → (i : ℕ) → get_or (drop n bytes) i 0 < 256
+pub are_bytes-drop : (n : ℕ) (bytes : List ℕ) → IsBytes bytes → (i : ℕ) → get_or (drop n bytes) i 0 < 256
 are_bytes-drop n bytes are i = rw (get_or-drop n bytes i 0) (are (n + i))
 
 -- what a file that ends with a magic number is read by
@@ -44,11 +44,11 @@ pub data EndReads (file : List ℕ) (read : Result Footer MetaFault) : Type 0 wh
   fields : (kind version : ℕ) (between : List ℕ) → EndsIn file (length file - 53) kind version between → fields_read Format.Block false version kind between ≡ read → EndReads file read
   legacy : EndsWith legacy_block_based_magic 48 file → Err (Version 0) ≡ read → EndReads file read
   other : IsOtherTable file → Err NotYet ≡ read → EndReads file read
-  none : (AreBytes (last_bytes 53 file) → IsTable file → ⊥) → Err NotTable ≡ read → EndReads file read
+  none : (IsBytes (last_bytes 53 file) → IsTable file → ⊥) → Err NotTable ≡ read → EndReads file read
 
 -- the fields of the last 53 bytes
 fields-found : (file front tail : List ℕ) (magic : ℕ) (read : Result Footer MetaFault) → file ≡ front ++ tail → length file - 53 ≡ length front → length tail ≡ 53
-    → last_bytes 8 tail ≡ fixed 8 magic → block_based_magic ≡ magic → (AreBytes (last_bytes 53 file) → (i : ℕ) → get_or (drop 41 tail) i 0 < 256)
+    → last_bytes 8 tail ≡ fixed 8 magic → block_based_magic ≡ magic → (IsBytes (last_bytes 53 file) → (i : ℕ) → get_or (drop 41 tail) i 0 < 256)
     → later_read Format.Block tail ≡ read → EndReads file read
 fields-found file front [] magic read joined at size last is are e = absurd (omega arith)
 fields-found file front (kind ∷ rest) magic read joined at size last is are e =

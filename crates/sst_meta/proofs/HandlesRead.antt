@@ -2,9 +2,9 @@
 use Rattle.std.proofs.Common.{◌≡◌, ℕ, List, ◌++◌, length, drop, Option, None, Some, refl, sym, ap, subst, ◌∙◌}
 use Rattle.std.proofs.lemmas.List.{drop_at}
 use Rattle.sst_num.specs.Spelling.{handle_spelling}
-use Rattle.sst_num.specs.Reading.{handle_at}
+use Rattle.sst_num.specs.NumberReading.{handle_at}
 use Rattle.sst_num.specs.declared.block_handle.Handle.{Handle}
-use Rattle.sst_num.proofs.Reading.{handle_at-handle, handle_at-found}
+use Rattle.sst_num.proofs.NumberReading.{handle_at-handle, handle_at-found}
 use Rattle.sst_meta.specs.Footer.{AreHandles}
 use Rattle.sst_meta.specs.FooterReading.{second_handle, handles_after, handles_read}
 

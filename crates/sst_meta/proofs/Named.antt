@@ -14,7 +14,7 @@ use Rattle.std.proofs.lemmas.Slice.Eq.{bytes_eq-Decides}
 use Rattle.sst_block.specs.declared.row_form.RowForm.TheVariants.{Names}
 use Rattle.sst_block.specs.Block.{Row, AreOrdered}
 use Rattle.sst_meta.specs.declared.pair.Pair.{Pair}
-use Rattle.sst_meta.specs.Pairs.{row_of, rows_of, value_of, Has}
+use Rattle.sst_meta.specs.Pairs.{row_of, rows_of_pairs, value_of, Has}
 
 abbrev cmp : List ℕ → List ℕ → Ordering
 cmp a b = slice_cmp nat_cmp a b
@@ -62,28 +62,28 @@ value-none name (a ∷ rest) others =
     false_from_ne_true (bytes_eq a.key name) (λ h. others 0 a refl ((bytes_eq-Decides a.key name).0 h)) in
     rw other (value-none name rest (λ i row at. others (suc i) row at))
 
-row-at : (pairs : List Pair) (i : ℕ) (p : Pair) → slice_get pairs i ≡ Some p → slice_get (rows_of pairs) i ≡ Some (row_of p)
+row-at : (pairs : List Pair) (i : ℕ) (p : Pair) → slice_get pairs i ≡ Some p → slice_get (rows_of_pairs pairs) i ≡ Some (row_of p)
 row-at [] i p at = cc
 row-at (q ∷ pairs) zero p at = let same : Some q ≡ Some p = at in let is : q ≡ p = cc in ap (λ (x : Pair). Some (row_of x)) is
 row-at (q ∷ pairs) (suc i) p at = row-at pairs i p at
 
-pair-at : (pairs : List Pair) (i : ℕ) (row : Row) → slice_get (rows_of pairs) i ≡ Some row → (p : Pair) × (slice_get pairs i ≡ Some p) × (row_of p ≡ row)
+pair-at : (pairs : List Pair) (i : ℕ) (row : Row) → slice_get (rows_of_pairs pairs) i ≡ Some row → (p : Pair) × (slice_get pairs i ≡ Some p) × (row_of p ≡ row)
 pair-at [] i row at = cc
 pair-at (q ∷ pairs) zero row at = let same : Some (row_of q) ≡ Some row = at in let is : row_of q ≡ row = cc in (q, refl, is)
 pair-at (q ∷ pairs) (suc i) row at = pair-at pairs i row at
 
 -- of two pairs the one that stands first has the lesser name
-apart : (pairs : List Pair) (i j : ℕ) (a b : Pair) → AreOrdered Names (rows_of pairs) → i < j → slice_get pairs i ≡ Some a → slice_get pairs j ≡ Some b
+apart : (pairs : List Pair) (i j : ℕ) (a b : Pair) → AreOrdered Names (rows_of_pairs pairs) → i < j → slice_get pairs i ≡ Some a → slice_get pairs j ≡ Some b
     → cmp a.name b.name ≡ Less
 apart [] i j a b ordered before at there = cc
 apart (p ∷ rest) i zero a b ordered before at there = absurd (omega arith)
 apart (p ∷ rest) zero (suc j) a b ordered before at there =
     let same : Some p ≡ Some a = at in
     let is : p ≡ a = cc in
-    let less = ahead (row_of p) (rows_of rest) j (row_of b) ordered (row-at rest j b there) in
+    let less = ahead (row_of p) (rows_of_pairs rest) j (row_of b) ordered (row-at rest j b there) in
     subst (λ (q : Pair). cmp q.name b.name ≡ Less) is less
 apart (p ∷ rest) (suc i) (suc j) a b ordered before at there =
-    apart rest i j a b (tail (row_of p) (rows_of rest) ordered) (omega arith) at there
+    apart rest i j a b (tail (row_of p) (rows_of_pairs rest) ordered) (omega arith) at there
 
 index-most : (o : Ordering) → ordering_index o ≤ 2
 index-most Less = omega arith
@@ -105,7 +105,7 @@ stands (p ∷ pairs) zero h = (p, refl)
 stands (p ∷ pairs) (suc i) h = stands pairs i (omega arith)
 
 -- the comparisons with a name rise along the list, as halving asks
-rises : (pairs : List Pair) (name : List ℕ) → AreOrdered Names (rows_of pairs) → IsNonDecreasingBy (λ (p : Pair). ordering_index (cmp p.name name)) pairs
+rises : (pairs : List Pair) (name : List ℕ) → AreOrdered Names (rows_of_pairs pairs) → IsNonDecreasingBy (λ (p : Pair). ordering_index (cmp p.name name)) pairs
 rises pairs name ordered i j d low within =
     let sooner = stands pairs i (omega arith) in
     let later = stands pairs j within in
@@ -129,7 +129,7 @@ abbrev pub IsNotNamed : List Pair → List ℕ → Type 0
 IsNotNamed pairs name = (i : ℕ) (p : Pair) → slice_get pairs i ≡ Some p → p.name ≡ name → ⊥
 
 -- halving finds the name, or that it isn't there
-pub searched : (pairs : List Pair) (name : List ℕ) (r : Result ℕ ℕ) → AreOrdered Names (rows_of pairs) → IsSearchInRange r (length pairs)
+pub searched : (pairs : List Pair) (name : List ℕ) (r : Result ℕ ℕ) → AreOrdered Names (rows_of_pairs pairs) → IsSearchInRange r (length pairs)
     → IsBinarySearchResult (λ (p : Pair). cmp p.name name) pairs r
     → IfOk r (NamedAt pairs name) × IfErr r (λ _. IsNotNamed pairs name)
 searched pairs name (Ok at) ordered within equal =
@@ -156,17 +156,17 @@ searched pairs name (Err at) ordered within parted =
         ]
 
 -- the value of the pair at the place is that of its name
-pub got : (rows : List Row) (pairs lent : List Pair) (name : List ℕ) (at : ℕ) (value : List ℕ) → rows_of pairs ≡ rows → AreOrdered Names (rows_of pairs)
+pub got : (rows : List Row) (pairs lent : List Pair) (name : List ℕ) (at : ℕ) (value : List ℕ) → rows_of_pairs pairs ≡ rows → AreOrdered Names (rows_of_pairs pairs)
     → lent ≡ pairs → NamedAt lent name at → ((p : Pair) → slice_get pairs at ≡ Some p → value ≡ p.value) → Some value ≡ value_of name rows
 got rows pairs lent name at value are ordered same (p, is, named) shown =
     let here : slice_get pairs at ≡ Some p = sym (ap (λ (l : List Pair). slice_get l at) same) ∙ is in
-    let found = value-found (rows_of pairs) at (row_of p) ordered (row-at pairs at p here) in
-    ap Some (shown p here) ∙ sym found ∙ ap (λ (n : List ℕ). value_of n (rows_of pairs)) named ∙ ap (value_of name) are
+    let found = value-found (rows_of_pairs pairs) at (row_of p) ordered (row-at pairs at p here) in
+    ap Some (shown p here) ∙ sym found ∙ ap (λ (n : List ℕ). value_of n (rows_of_pairs pairs)) named ∙ ap (value_of name) are
 
 -- and of a name that isn't there, there is none
-pub got-none : (rows : List Row) (pairs lent : List Pair) (name : List ℕ) → rows_of pairs ≡ rows → lent ≡ pairs → IsNotNamed lent name → None ≡ value_of name rows
+pub got-none : (rows : List Row) (pairs lent : List Pair) (name : List ℕ) → rows_of_pairs pairs ≡ rows → lent ≡ pairs → IsNotNamed lent name → None ≡ value_of name rows
 got-none rows pairs lent name are same others =
-    let none = value-none name (rows_of pairs) (λ i row at k.
+    let none = value-none name (rows_of_pairs pairs) (λ i row at k.
     let p = pair-at pairs i row at in
     others i p.0 (ap (λ (l : List Pair). slice_get l i) same ∙ p.1) (ap (λ (r : Row). r.key) p.2 ∙ k)) in
     sym none ∙ ap (value_of name) are

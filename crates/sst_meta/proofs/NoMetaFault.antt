@@ -5,7 +5,7 @@ use Rattle.sst_num.specs.Spelling.{fixed, varint}
 use Rattle.sst_num.specs.declared.block_handle.Handle.{Handle}
 use Rattle.sst_block.specs.declared.row_form.RowForm.TheVariants.{Names}
 use Rattle.sst_block.specs.Block.{Row}
-use Rattle.sst_meta.specs.BlockFooter.{AreBytes, IsOtherTable, FooterLeads, footer_start}
+use Rattle.sst_meta.specs.BlockFooter.{IsBytes, IsOtherTable, FooterLeads, footer_start}
 use Rattle.sst_meta.specs.Footer.{legacy_block_based_magic, plain_magic, legacy_plain_magic, cuckoo_magic}
 use Rattle.sst_meta.specs.FooterReading.{last_bytes}
 use Rattle.sst_meta.specs.LoadReading.{fixed_in, varint_in, load_read}
@@ -161,10 +161,10 @@ no-meta_fault file loaded (meta.MissingProperty n) m shows = no-missing file loa
 no-meta_fault file loaded meta.NotYet m shows = no-not_yet file loaded m shows
 
 -- a file says something of itself, or shows a fault
-either-by : (file : List ℕ) (read : Result Loaded MetaFault) → load_read file ≡ read → AreBytes (last_bytes 53 file)
+either-by : (file : List ℕ) (read : Result Loaded MetaFault) → load_read file ≡ read → IsBytes (last_bytes 53 file)
     → ((loaded : Loaded) × Meta file loaded) ⊎ ((fault : MetaFault) × ShowsMeta file fault)
 either-by file (Ok loaded) is bytes = inl (loaded, load-sound file loaded is)
 either-by file (Err fault) is bytes = inr (fault, load-shown file fault bytes is)
 
-pub either : (file : List ℕ) → AreBytes (last_bytes 53 file) → ((loaded : Loaded) × Meta file loaded) ⊎ ((fault : MetaFault) × ShowsMeta file fault)
+pub either : (file : List ℕ) → IsBytes (last_bytes 53 file) → ((loaded : Loaded) × Meta file loaded) ⊎ ((fault : MetaFault) × ShowsMeta file fault)
 either file bytes = either-by file (load_read file) refl bytes

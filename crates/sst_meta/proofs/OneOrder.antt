@@ -2,7 +2,7 @@
 -- none fails.
 use Rattle.std.proofs.Common.{◌≡◌, ℕ, ◌≤◌, List, Result, Ok, Err, refl, ap, subst, inl, inr, arith}
 use Rattle.std.proofs.lemmas.Bool.{cases_lt}
-use Rattle.sst_meta.specs.BlockFooter.{AreBytes}
+use Rattle.sst_meta.specs.BlockFooter.{IsBytes}
 use Rattle.sst_meta.specs.FooterReading.{last_bytes}
 use Rattle.sst_meta.specs.LoadReading.{load_read}
 use Rattle.sst_meta.specs.LoadSteps.{LoadStep, number_of, FailsAt, FailsFirst}
@@ -19,7 +19,7 @@ pub load-none : (file : List ℕ) (loaded : Loaded) (step : LoadStep) (fault : M
 load-none file loaded step fault is fails = no-meta_fault file loaded fault (load-sound file loaded is) (fails-shows file step fault fails)
 
 -- two first steps are one, with one fault
-first-once : (file : List ℕ) (step other : LoadStep) (a b : MetaFault) → AreBytes (last_bytes 53 file) → FailsFirst file step a → FailsFirst file other b → b ≡ a
+first-once : (file : List ℕ) (step other : LoadStep) (a b : MetaFault) → IsBytes (last_bytes 53 file) → FailsFirst file step a → FailsFirst file other b → b ≡ a
 first-once file step other a b bytes left right =
     elim (cases_lt (number_of step) (number_of other)) [
       | inl before ↦ absurd (right.first step a before left.fails)
@@ -33,7 +33,7 @@ first-once file step other a b bytes left right =
     ]
 
 -- the fault of the first step that fails is read
-pub first-load : (file : List ℕ) (step : LoadStep) (fault : MetaFault) → AreBytes (last_bytes 53 file) → FailsFirst file step fault → load_read file ≡ Err fault
+pub first-load : (file : List ℕ) (step : LoadStep) (fault : MetaFault) → IsBytes (last_bytes 53 file) → FailsFirst file step fault → load_read file ≡ Err fault
 first-load file step fault bytes first =
     elim (load_read file) as (λ (read : Result Loaded MetaFault). load_read file ≡ read → read ≡ Err fault) [
       | Ok loaded ↦ λ is. absurd (load-none file loaded step fault is first.fails)
@@ -43,7 +43,7 @@ first-load file step fault bytes first =
     ] refl
 
 -- a file of which no step fails is loaded
-pub load-all : (file : List ℕ) → AreBytes (last_bytes 53 file) → ((step : LoadStep) (fault : MetaFault) → FailsAt file step fault → ⊥)
+pub load-all : (file : List ℕ) → IsBytes (last_bytes 53 file) → ((step : LoadStep) (fault : MetaFault) → FailsAt file step fault → ⊥)
     → (loaded : Loaded) × (load_read file ≡ Ok loaded)
 load-all file bytes none =
     elim (load_read file) as (λ (read : Result Loaded MetaFault). load_read file ≡ read → (loaded : Loaded) × (load_read file ≡ Ok loaded)) [

@@ -5,7 +5,7 @@ use Rattle.sst_num.specs.Spelling.{fixed}
 use Rattle.sst_num.specs.declared.block_handle.Handle.{Handle}
 use Rattle.sst_block.specs.declared.row_form.RowForm.TheVariants.{Names}
 use Rattle.sst_block.specs.Block.{Row}
-use Rattle.sst_meta.specs.BlockFooter.{AreBytes}
+use Rattle.sst_meta.specs.BlockFooter.{IsBytes}
 use Rattle.sst_meta.specs.FooterReading.{last_bytes}
 use Rattle.sst_meta.specs.LoadReading.{end_read, comparator_fault, index_type_fault, global_fault, external_fault, flag_fault}
 use Rattle.sst_meta.specs.LoadSteps.{LoadStep, file_length, magic_number, kind_of_table, format_version, checksum_type, footer_handles, metaindex_frame, metaindex_rows, no_tombstones, props_handle, props_frame, props_rows, key_order, index_type, global_sequence, external_version, user_key_flag, delta_flag, form_is_read, number_of, FailsAt, IsShown}
@@ -122,11 +122,11 @@ shows-fails file meta.NotYet (inl table) = (kind_of_table, (refl, table))
 shows-fails file meta.NotYet (inr form) = (form_is_read, (refl, form))
 
 -- what fails at the end of the file is what reading the end gives
-version-shown : (file : List ℕ) (version : ℕ) → AreBytes (last_bytes 53 file) → ShowsMeta file (meta.Version version) → end_read (last_bytes 53 file) ≡ Err (meta.Version version)
+version-shown : (file : List ℕ) (version : ℕ) → IsBytes (last_bytes 53 file) → ShowsMeta file (meta.Version version) → end_read (last_bytes 53 file) ≡ Err (meta.Version version)
 version-shown file version bytes (inl old) = legacy-read file bytes old.0 ∙ ap (λ (v : ℕ). Err (meta.Version v)) (sym old.1)
 version-shown file version bytes (inr shows) = version-read file shows.0 shows.1 version shows.2 shows.3 shows.4
 
-pub end-step-read : (file : List ℕ) (step : LoadStep) (fault : MetaFault) → AreBytes (last_bytes 53 file) → 0 < number_of step → number_of step < 6
+pub end-step-read : (file : List ℕ) (step : LoadStep) (fault : MetaFault) → IsBytes (last_bytes 53 file) → 0 < number_of step → number_of step < 6
     → FailsAt file step fault → end_read (last_bytes 53 file) ≡ Err fault
 end-step-read file file_length fault bytes some low fails = absurd (omega (arith, some))
 end-step-read file magic_number fault bytes some low fails = no_table-read file fails.1 ∙ ap Err (sym fails.0)
@@ -253,7 +253,7 @@ delta-read file props other has fails =
 same-read : (o : Option MetaFault) (a b : MetaFault) → o ≡ Some a → o ≡ Some b → a ≡ b
 same-read o a b left right = let same : Some a ≡ Some b = sym left ∙ right in cc
 
-end-once : (file : List ℕ) (step : LoadStep) (a b : MetaFault) → AreBytes (last_bytes 53 file) → 0 < number_of step → number_of step < 6 → FailsAt file step a → FailsAt file step b
+end-once : (file : List ℕ) (step : LoadStep) (a b : MetaFault) → IsBytes (last_bytes 53 file) → 0 < number_of step → number_of step < 6 → FailsAt file step a → FailsAt file step b
     → a ≡ b
 end-once file step a b bytes some low left right =
     let same : ◌≡◌ {A = Result Footer MetaFault} (Err a) (Err b) = sym (end-step-read file step a bytes some low left) ∙ end-step-read file step b bytes some low right in
@@ -268,7 +268,7 @@ global-props : (file : List ℕ) (fault : MetaFault) → FailsAt file global_seq
 global-props file fault (inl fails) = let s : IsMissing file name.GlobalSequence = fails.1 in (s.0, s.1)
 global-props file fault (inr fails) = let s : IsBadValue file name.GlobalSequence = fails.1 in (s.0, s.2)
 
-pub fails-once : (file : List ℕ) (step : LoadStep) (a b : MetaFault) → AreBytes (last_bytes 53 file) → FailsAt file step a → FailsAt file step b → a ≡ b
+pub fails-once : (file : List ℕ) (step : LoadStep) (a b : MetaFault) → IsBytes (last_bytes 53 file) → FailsAt file step a → FailsAt file step b → a ≡ b
 fails-once file file_length a b bytes left right = left.0 ∙ sym right.0
 fails-once file magic_number a b bytes left right = left.0 ∙ sym right.0
 fails-once file kind_of_table a b bytes left right = left.0 ∙ sym right.0

@@ -19,7 +19,7 @@ use Rattle.sst_device.specs.declared.frame.FrameFault.{FrameFault}
 use Rattle.sst_device.proofs.Choices.{by_test}
 use Rattle.sst_device.proofs.FramesRead.{frame_read-framed, frame_read-fault}
 use Rattle.sst_block.proofs.FirstFaults.{first-read}
-use Rattle.sst_meta.specs.BlockFooter.{AreBytes, EndsWith, EndsIn, IsTable, IsOtherTable, IsBuilt}
+use Rattle.sst_meta.specs.BlockFooter.{IsBytes, EndsWith, EndsIn, IsTable, IsOtherTable, IsBuilt}
 use Rattle.sst_meta.specs.Footer.{block_based_magic, legacy_block_based_magic, plain_magic, legacy_plain_magic, cuckoo_magic, AreHandles}
 use Rattle.sst_meta.specs.FooterReading.{last_bytes, handles_read, as_footer, fields_read}
 use Rattle.sst_meta.specs.LoadReading.{end_read, handle_in, varint_in, fixed_in, is_below, comparator_fault, index_type_by, index_type_fault, is_valued, global_in, global_fault, external_fault, flag_fault}
@@ -76,7 +76,7 @@ no_table-read file not =
       | none never e ↦ sym e
     ]
 
-pub other_table-read : (file : List ℕ) → AreBytes (last_bytes 53 file) → IsOtherTable file → end_read (last_bytes 53 file) ≡ Err meta.NotYet
+pub other_table-read : (file : List ℕ) → IsBytes (last_bytes 53 file) → IsOtherTable file → end_read (last_bytes 53 file) ≡ Err meta.NotYet
 other_table-read file bytes is =
     elim (end_reads file (end_read (last_bytes 53 file)) refl) [
       | fields kind version between ends e ↦ absurd (block-other file (ends-magic file (length file - 53) kind version between ends) is)
@@ -85,7 +85,7 @@ other_table-read file bytes is =
       | none never e ↦ absurd (never bytes (inr (inr is)))
     ]
 
-pub legacy-read : (file : List ℕ) → AreBytes (last_bytes 53 file) → EndsWith legacy_block_based_magic 48 file → end_read (last_bytes 53 file) ≡ Err (meta.Version 0)
+pub legacy-read : (file : List ℕ) → IsBytes (last_bytes 53 file) → EndsWith legacy_block_based_magic 48 file → end_read (last_bytes 53 file) ≡ Err (meta.Version 0)
 legacy-read file bytes is =
     elim (end_reads file (end_read (last_bytes 53 file)) refl) [
       | fields kind version between ends e ↦ absurd (legacy-block file is (ends-magic file (length file - 53) kind version between ends))

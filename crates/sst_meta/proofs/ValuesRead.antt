@@ -3,11 +3,11 @@ use Rattle.std.proofs.Common.{◌≡◌, ℕ, ◌^◌, ◌<◌, ◌==◌, List, 
 use Rattle.std.proofs.lemmas.Bool.{eqb-true, eq-eqb}
 use Rattle.std.proofs.lemmas.List.{append-nil, take_all}
 use Rattle.sst_num.specs.Spelling.{fixed, varint, handle_spelling}
-use Rattle.sst_num.specs.Reading.{varint_at, fixed_at, handle_at}
+use Rattle.sst_num.specs.NumberReading.{varint_at, fixed_at, handle_at}
 use Rattle.sst_num.specs.declared.block_handle.Handle.{Handle}
 use Rattle.sst_num.proofs.Fixed.{length-fixed}
 use Rattle.sst_num.proofs.FixedAt.{fixed_at-fixed, fixed_at-found}
-use Rattle.sst_num.proofs.Reading.{varint_at-varint, varint_at-found, handle_at-handle, handle_at-found}
+use Rattle.sst_num.proofs.NumberReading.{varint_at-varint, varint_at-found, handle_at-handle, handle_at-found}
 use Rattle.sst_device.proofs.Choices.{by_test}
 use Rattle.sst_meta.specs.LoadReading.{exactly, handle_in, varint_in, fixed_in}
 use Rattle.sst_meta.specs.MetaFaults.{IsHandleOf}

@@ -66,5 +66,5 @@ pub record FooterLeads (file : List ℕ) (end : ℕ) (metaindex index : Handle) 
 -- the numbers are bytes, as those of a real file are
 -- Own.
 -- Pinned by: a_footer_is_read, a_fault_is_shown
-abbrev pub AreBytes : List ℕ → Type 0
-AreBytes numbers = (i : ℕ) → slice_index numbers i < 256
+abbrev pub IsBytes : List ℕ → Type 0
+IsBytes numbers = (i : ℕ) → slice_index numbers i < 256

@@ -6,7 +6,7 @@ use Rattle.sst_num.specs.declared.block_handle.Handle.{Handle}
 use Rattle.sst_block.specs.declared.row_form.RowForm.{RowForm}
 use Rattle.sst_block.specs.declared.fault.BlockFault.{BlockFault}
 use Rattle.sst_block.specs.Block.{Row, Spelled}
-use Rattle.sst_block.specs.Reading.{block_read}
+use Rattle.sst_block.specs.BlockReading.{block_read}
 use Rattle.sst_device.specs.FrameReading.{frame_read}
 use Rattle.sst_device.specs.declared.frame.FrameFault.{FrameFault}
 

@@ -2,7 +2,7 @@
 -- RocksDB: table/format.cc (Footer::DecodeFrom).
 use Rattle.std.specs.Prelude.{ℕ, ◌-◌, ◌==◌, ◌&&◌, nat_lt, nat_le, Bool, true, false, if◌then◌else◌, List, [], ◌∷◌, length, take, drop, Option, None, Some, Result, Ok, Err}
 use Rattle.std.specs.Option.{option_map}
-use Rattle.sst_num.specs.Reading.{fixed_at, handle_at}
+use Rattle.sst_num.specs.NumberReading.{fixed_at, handle_at}
 use Rattle.sst_num.specs.declared.block_handle.Handle.{Handle}
 use Rattle.sst_key.specs.declared.calls.Format.{Format}
 use Rattle.sst_key.specs.declared.calls.Format.TheVariants.{Block, Plain, Cuckoo}

@@ -7,7 +7,7 @@
 -- values are refused is this project's own.
 use Rattle.std.specs.Prelude.{ℕ, ◌^◌, ◌==◌, nat_lt, if◌then◌else◌, Bool, false, not, List, length, Option, None, Some, bytes_eq, Result, Ok, Err}
 use Rattle.std.specs.Option.{is_some}
-use Rattle.sst_num.specs.Reading.{varint_at, fixed_at, handle_at}
+use Rattle.sst_num.specs.NumberReading.{varint_at, fixed_at, handle_at}
 use Rattle.sst_num.specs.declared.block_handle.Handle.{Handle}
 use Rattle.sst_block.specs.declared.row_form.RowForm.TheVariants.{Names}
 use Rattle.sst_block.specs.Block.{Row}

@@ -7,7 +7,7 @@ use Rattle.sst_num.specs.declared.stops.Refused.TheVariants.{Cause, Memory}
 use Rattle.sst_block.specs.declared.row_form.RowForm.TheVariants.{Names}
 use Rattle.sst_block.specs.declared.fault.BlockFault.{BlockFault}
 use Rattle.sst_block.specs.Block.{Row}
-use Rattle.sst_block.specs.Reading.{Reads, block_read}
+use Rattle.sst_block.specs.BlockReading.{Reads, block_read}
 use Rattle.sst_meta.specs.declared.pair.Pair.{Pair}
 
 -- a pair as a row
@@ -16,8 +16,8 @@ use Rattle.sst_meta.specs.declared.pair.Pair.{Pair}
 abbrev pub row_of : Pair → Row
 row_of p = record { key = p.name; value = p.value }
 
-abbrev pub rows_of : List Pair → List Row
-rows_of pairs = map row_of pairs
+abbrev pub rows_of_pairs : List Pair → List Row
+rows_of_pairs pairs = map row_of pairs
 
 -- the row is one of the rows
 -- Own.

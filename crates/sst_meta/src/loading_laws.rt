@@ -2,7 +2,7 @@
 ghost use Rattle.std.specs.Prelude.{◌≡◌, ◌⊎◌, ℕ, ◌-◌, ◌^◌, ◌<◌, ◌≤◌, List, length, Ok, Err};
 ghost use Rattle.sst_num.specs.declared.block_handle.Handle.{Handle};
 ghost use Rattle.sst_block.specs.Block.{Row};
-ghost use Rattle.sst_meta.specs.BlockFooter.{AreBytes, FooterLeads, IsBuilt, block_footer, footer_start};
+ghost use Rattle.sst_meta.specs.BlockFooter.{IsBytes, FooterLeads, IsBuilt, block_footer, footer_start};
 ghost use Rattle.sst_meta.specs.FooterReading.{last_bytes};
 ghost use Rattle.sst_meta.specs.LoadReading.{end_read, load_read};
 ghost use Rattle.sst_meta.specs.LoadSteps.{LoadStep, number_of, FailsAt, FailsFirst};
@@ -24,7 +24,7 @@ pub fn a_footer_is_read()
     ensures sound { (file : List ℕ) (footer : Footer) → end_read (last_bytes 53 file) ≡ Ok footer
         → (leads : FooterLeads file (footer_start file) footer.meta footer.index)
         × (footer ≡ block_footer leads.version footer.meta footer.index) }
-    ensures faults { (file : List ℕ) (fault : MetaFault) → AreBytes (last_bytes 53 file)
+    ensures faults { (file : List ℕ) (fault : MetaFault) → IsBytes (last_bytes 53 file)
         → end_read (last_bytes 53 file) ≡ Err fault → ShowsMeta file fault }
 {}
 
@@ -44,10 +44,10 @@ pub fn a_file_loads_as_it_says()
 /// `shown` and `either` hold where the last 53 numbers of the list are bytes, as those of a real file are.
 /// RocksDB: `BlockBasedTable::Open` in table/block_based/block_based_table_reader.cc.
 pub fn a_meta_fault_is_shown()
-    ensures shown { (file : List ℕ) (fault : MetaFault) → AreBytes (last_bytes 53 file) → load_read file ≡ Err fault
+    ensures shown { (file : List ℕ) (fault : MetaFault) → IsBytes (last_bytes 53 file) → load_read file ≡ Err fault
         → ShowsMeta file fault }
     ensures none { (file : List ℕ) (loaded : Loaded) (fault : MetaFault) → Meta file loaded → ShowsMeta file fault → ⊥ }
-    ensures either { (file : List ℕ) → AreBytes (last_bytes 53 file)
+    ensures either { (file : List ℕ) → IsBytes (last_bytes 53 file)
         → ((loaded : Loaded) × Meta file loaded) ⊎ ((fault : MetaFault) × ShowsMeta file fault) }
 {}
 
@@ -61,15 +61,15 @@ pub fn a_meta_fault_is_shown()
 /// All but `loads` and `shown` hold where the last 53 numbers of the list are bytes, as those of a real file are.
 /// RocksDB: `BlockBasedTable::Open` in table/block_based/block_based_table_reader.cc.
 pub fn the_fault_of_loading_is_the_first()
-    ensures first { (file : List ℕ) (fault : MetaFault) → AreBytes (last_bytes 53 file) → load_read file ≡ Err fault
+    ensures first { (file : List ℕ) (fault : MetaFault) → IsBytes (last_bytes 53 file) → load_read file ≡ Err fault
         → (step : LoadStep) × FailsFirst file step fault }
-    ensures read { (file : List ℕ) (step : LoadStep) (fault : MetaFault) → AreBytes (last_bytes 53 file) → FailsFirst file step fault
+    ensures read { (file : List ℕ) (step : LoadStep) (fault : MetaFault) → IsBytes (last_bytes 53 file) → FailsFirst file step fault
         → load_read file ≡ Err fault }
     ensures loads { (file : List ℕ) (loaded : Loaded) (step : LoadStep) (fault : MetaFault) → load_read file ≡ Ok loaded
         → FailsAt file step fault → ⊥ }
-    ensures all { (file : List ℕ) → AreBytes (last_bytes 53 file)
+    ensures all { (file : List ℕ) → IsBytes (last_bytes 53 file)
         → ((step : LoadStep) (fault : MetaFault) → FailsAt file step fault → ⊥) → (loaded : Loaded) × (load_read file ≡ Ok loaded) }
-    ensures one { (file : List ℕ) (step : LoadStep) (a b : MetaFault) → AreBytes (last_bytes 53 file) → FailsAt file step a
+    ensures one { (file : List ℕ) (step : LoadStep) (a b : MetaFault) → IsBytes (last_bytes 53 file) → FailsAt file step a
         → FailsAt file step b → a ≡ b }
     ensures shown { (file : List ℕ) (step : LoadStep) (fault other : MetaFault) → FailsFirst file step fault → ShowsMeta file other
         → (later : LoadStep) × FailsAt file later other × (number_of step ≤ number_of later) }

@@ -5,9 +5,9 @@ ghost use Rattle.sst_block.specs.declared.row_form.RowForm.TheVariants.{Names};
 ghost use Rattle.sst_block.specs.declared.fault.BlockFault as faults;
 ghost use Rattle.sst_block.specs.Block.{Row, Block, AreOrdered};
 ghost use Rattle.sst_block.specs.FirstFault.{IsFirstFault};
-ghost use Rattle.sst_block.specs.Reading.{Reads};
+ghost use Rattle.sst_block.specs.BlockReading.{Reads};
 ghost use Rattle.sst_meta.specs.declared.pair.Pair as pair;
-ghost use Rattle.sst_meta.specs.Pairs.{Gives, rows_of, value_of};
+ghost use Rattle.sst_meta.specs.Pairs.{Gives, rows_of_pairs, value_of};
 
 use crate::pair::{Pair, copy_pair};
 use sst_block::{BlockFault, BlockIter, RowForm, check_block};
@@ -31,13 +31,13 @@ impl Model for Props {
     ghost use Rattle.std.specs.Prelude.{List};
     ghost use Rattle.sst_block.specs.declared.row_form.RowForm.TheVariants.{Names};
     ghost use Rattle.sst_block.specs.Block.{Row, AreOrdered};
-    ghost use Rattle.sst_meta.specs.Pairs.{rows_of};
+    ghost use Rattle.sst_meta.specs.Pairs.{rows_of_pairs};
 
     ghost Value = { List Row };
 
-    ghost view = { λ p. rows_of p.pairs.items };
+    ghost view = { λ p. rows_of_pairs p.pairs.items };
 
-    ghost invariant = { λ p. AreOrdered Names (rows_of p.pairs.items) };
+    ghost invariant = { λ p. AreOrdered Names (rows_of_pairs p.pairs.items) };
 }
 
 impl Props {
@@ -96,7 +96,7 @@ impl Props {
 
 /// Where the name stands; else where it would go.
 fn place_of(pairs: &[Pair], name: &[u8]) -> Result<usize, usize>
-    requires { AreOrdered Names (rows_of pairs.now) }
+    requires { AreOrdered Names (rows_of_pairs pairs.now) }
     ensures found { IfOk result (λ i. (p : pair.Pair) × (slice_get pairs.now i ≡ Some p) × (p.name ≡ name.now)) }
     ensures none { IfErr result (λ _. (i : ℕ) (p : pair.Pair) → slice_get pairs.now i ≡ Some p → p.name ≡ name.now → ⊥) }
 {
@@ -108,7 +108,7 @@ fn pairs_of(alloc: Global, block: &[u8], count: u32) -> Result<Vec<Pair>, Memory
     requires short { length block.now ≤ 2 ^ 29 }
     requires read { (rows : List Row) × Reads Names block.now rows × (length rows ≡ count) }
     ensures { IfOk result (λ pairs. (rows : List Row) → Reads Names block.now rows → length rows ≡ count
-        → rows ≡ rows_of pairs.items) }
+        → rows ≡ rows_of_pairs pairs.items) }
 {
     let room = KeyRoom::new(alloc)?;
     let mut rows = BlockIter::start(block, RowForm::Names, room);

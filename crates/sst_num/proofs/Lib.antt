@@ -1,6 +1,6 @@
 pub mod Fixed
 pub mod FixedAt
 pub mod Groups
-pub mod Reading
+pub mod NumberReading
 pub mod Standing
 pub mod Varints

@@ -1,9 +1,9 @@
 -- What stands at the front of a list and is in range is what is read there, and nothing else is.
 use Rattle.std.proofs.Common.{◌≡◌, ◌↔◌, ℕ, ◌^◌, ◌<◌, List, ◌++◌, drop, Some, sym, ap, ◌∙◌}
 use Rattle.sst_num.specs.Spelling.{fixed}
-use Rattle.sst_num.specs.Reading.{varint_at, varint32_at, handle_at, fixed_at, StartsWithVarint, StartsWithHandle}
+use Rattle.sst_num.specs.NumberReading.{varint_at, varint32_at, handle_at, fixed_at, StartsWithVarint, StartsWithHandle}
 use Rattle.sst_num.specs.declared.block_handle.Handle.{Handle}
-use Rattle.sst_num.proofs.Reading.{varint_at-varint, varint_at-found, varint32_at-varint, varint32_at-found, handle_at-handle, handle_at-found}
+use Rattle.sst_num.proofs.NumberReading.{varint_at-varint, varint_at-found, varint32_at-varint, varint32_at-found, handle_at-handle, handle_at-found}
 use Rattle.sst_num.proofs.FixedAt.{fixed_at-fixed, fixed_at-found, fixed_at-joined}
 
 varint_at-there : (bytes : List ℕ) (v used : ℕ) → v < 2 ^ 64 → StartsWithVarint bytes v used → varint_at bytes ≡ Some (v, used)

@@ -1,7 +1,7 @@
 //! Laws: what is spelled reads back, and a number has one spelling.
 ghost use Rattle.std.specs.Prelude.{◌≡◌, ℕ, ◌<◌, ◌≤◌, ◌↔◌, ◌^◌, List, ◌++◌, length, Some};
 ghost use Rattle.sst_num.specs.Spelling.{varint, fixed, fixed_value, handle_spelling, IsVarint};
-ghost use Rattle.sst_num.specs.Reading.{varint_at, varint32_at, handle_at, fixed_at, StartsWithVarint, StartsWithHandle};
+ghost use Rattle.sst_num.specs.NumberReading.{varint_at, varint32_at, handle_at, fixed_at, StartsWithVarint, StartsWithHandle};
 ghost use Rattle.sst_num.specs.declared.block_handle.Handle.{Handle};
 
 /// What is written for a number below 2^64 is a spelling of it, of at most ten bytes.

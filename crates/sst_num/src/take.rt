@@ -1,7 +1,7 @@
 //! Numbers and handles, read from the front of bytes.
 ghost use Rattle.std.specs.Prelude.{◌≡◌, ℕ, ◌<◌, ◌≤◌, ◌^◌, List, ◌++◌, length, take, IfSome, IfNone};
 ghost use Rattle.sst_num.specs.Spelling.{varint, fixed_value, handle_spelling};
-ghost use Rattle.sst_num.specs.Reading.{with_group, groups_at, fixed_at, varint_at, varint32_at, handle_at, StartsWithVarint, StartsWithHandle};
+ghost use Rattle.sst_num.specs.NumberReading.{with_group, groups_at, fixed_at, varint_at, varint32_at, handle_at, StartsWithVarint, StartsWithHandle};
 ghost use Rattle.sst_num.specs.declared.block_handle.Handle.{Handle as handle_type};
 
 use crate::block_handle::Handle;
@@ -43,7 +43,7 @@ fn take_groups(b: &[u8], most: usize) -> Option<(u64, usize)>
 /// None comes exactly where no number below 2^64 has its one spelling there: the bytes end too soon,
 /// the spelling is longer than it need be, or the number is too large. RocksDB: `GetVarint64Ptr` in
 /// util/coding.h, which also takes the longer spellings, and drops the bits of a tenth byte that are past 64.
-#[tactic(auto, unfolding(crate::specs::Reading::varint_at))]
+#[tactic(auto, unfolding(crate::specs::NumberReading::varint_at))]
 pub fn take_varint64(b: &[u8]) -> Option<(u64, usize)>
     ensures exact { result ≡ varint_at b.now }
     ensures found { IfSome result (λ f. StartsWithVarint b.now f.0 f.1 × (0 < f.1) × (f.1 ≤ length b.now)) }
@@ -57,7 +57,7 @@ pub fn take_varint64(b: &[u8]) -> Option<(u64, usize)>
 /// None comes exactly where no number below 2^32 has its one spelling there. RocksDB: `GetVarint32Ptr`
 /// in util/coding.h, which also takes spellings that are longer than they need be, and drops the bits of a fifth byte
 /// that are past 32.
-#[tactic(auto, unfolding(crate::specs::Reading::varint32_at))]
+#[tactic(auto, unfolding(crate::specs::NumberReading::varint32_at))]
 pub fn take_varint32(b: &[u8]) -> Option<(u32, usize)>
     ensures exact { result ≡ varint32_at b.now }
     ensures found { IfSome result (λ f. StartsWithVarint b.now f.0 f.1 × (0 < f.1) × (f.1 ≤ length b.now)) }
@@ -75,7 +75,7 @@ pub fn take_varint32(b: &[u8]) -> Option<(u32, usize)>
 ///
 /// None comes exactly where no handle has its one spelling there. RocksDB: `BlockHandle::DecodeFrom` in
 /// table/format.cc.
-#[tactic(auto, unfolding(crate::specs::Reading::handle_at))]
+#[tactic(auto, unfolding(crate::specs::NumberReading::handle_at))]
 pub fn take_handle(b: &[u8]) -> Option<(Handle, usize)>
     ensures exact { result ≡ handle_at b.now }
     ensures found { IfSome result (λ f. StartsWithHandle b.now f.0 f.1 × (0 < f.1) × (f.1 ≤ length b.now)) }

@@ -1,8 +1,8 @@
 //! The index and the data blocks of a file that is opened.
 ghost use Rattle.std.specs.Prelude.{◌≡◌, ◌≢◌, ℕ, ◌^◌, ◌≤◌, ◌⊎◌, false, List, [], ◌∷◌, ◌++◌, length, Some, Ok, Err, IsTrue, OnOk, IfOk};
-ghost use Rattle.sst_num.specs.Reading.{handle_at};
+ghost use Rattle.sst_num.specs.NumberReading.{handle_at};
 ghost use Rattle.sst_block.specs.Block.{Row, IsHandle};
-ghost use Rattle.sst_block.specs.Reading.{Reads};
+ghost use Rattle.sst_block.specs.BlockReading.{Reads};
 ghost use Rattle.sst_block.specs.declared.row_form.RowForm.TheVariants.{Entries, Index};
 ghost use Rattle.sst_device.specs.Folder.{file_of, misses};
 ghost use Rattle.sst_device.specs.Outside.{OnlyReads};

@@ -4,7 +4,7 @@
 ghost use Rattle.std.specs.Prelude.{◌≡◌, ◌⊎◌, ℕ, ◌≤◌, List, [], Option, Some, Ok, Err, IfOk};
 ghost use Rattle.sst_device.specs.Faults.{Rose};
 ghost use Rattle.sst_device.specs.Folder.{put_file};
-ghost use Rattle.sst_cli.specs.Reading.{read_input};
+ghost use Rattle.sst_cli.specs.InputReading.{read_input};
 ghost use Rattle.sst_cli.specs.Produced.{HasProduced};
 ghost use Rattle.sst_cli.specs.WriteCommand.{ChangesOnly};
 ghost use Rattle.sst_text.specs.Taken.{IsTakenTo};

@@ -5,7 +5,7 @@
 ghost use Rattle.std.specs.Prelude.{◌≡◌, ◌≢◌, ℕ, ◌+◌, ◌<◌, ◌≤◌, ◌^◌, List, [], length, Some, Ok, Err, IfOk, OnOk};
 ghost use Rattle.sst_key.specs.declared.calls.Call.{Call};
 ghost use Rattle.sst_text.specs.CallText.{IsInLimits, AreInLimits};
-ghost use Rattle.sst_cli.specs.Reading as reading;
+ghost use Rattle.sst_cli.specs.InputReading as reading;
 ghost use Rattle.sst_cli.specs.ReadingResult.{IsRefused};
 ghost use Rattle.sst_text.specs.Taken.{IsTakenTo};
 ghost use Rattle.sst_device.specs.Outside.{CountsFaults};

@@ -6,8 +6,8 @@ ghost use Rattle.std.specs.Prelude.{◌⊎◌, ◌≡◌, ◌≢◌, ℕ, ◌<�
 ghost use Rattle.std.specs.Io.KnownBytes.{prepend_known};
 ghost use Rattle.sst_key.specs.declared.entries.Entry.{Entry};
 ghost use Rattle.sst_bbt_write.specs.After.{After};
-ghost use Rattle.sst_cli.specs.Reading as reading;
-ghost use Rattle.sst_cli.specs.Reading.{refused_at};
+ghost use Rattle.sst_cli.specs.InputReading as reading;
+ghost use Rattle.sst_cli.specs.InputReading.{refused_at};
 ghost use Rattle.sst_cli.specs.NextLine.{IsNext, HasNoLine};
 ghost use Rattle.sst_text.specs.Taken.{past_line, IsTakenTo};
 ghost use Rattle.sst_cli.specs.ReadingResult.{HasAdded, IsRefused, HoldsInput};

@@ -1,5 +1,5 @@
 use Rattle.std.proofs.Common.{◌≡◌, Some, ap, ◌∙◌, arith}
-use Rattle.sst_num.specs.Reading.{fixed_at}
+use Rattle.sst_num.specs.NumberReading.{fixed_at}
 use Rattle.sst_block.proofs.Parts.{behind-counted, parts-missing, parts-sound}
 use Rattle.sst_block.proofs.check.check_parts.Goals as goal
 

@@ -2,7 +2,7 @@ use Rattle.std.proofs.Common.{None, ap, ◌∙◌, arith}
 use Rattle.sst_block.proofs.BlockRead.{read-sound}
 use Rattle.sst_block.proofs.RowsCopied.{walks-at}
 use Rattle.sst_block.specs.declared.row_form.RowForm.TheVariants.{Names}
-use Rattle.sst_meta.specs.Pairs.{rows_of}
+use Rattle.sst_meta.specs.Pairs.{rows_of_pairs}
 use Rattle.sst_meta.proofs.PairsRead.{copied_more, copied_all}
 use Rattle.sst_meta.proofs.props.pairs_of.Goals as goal
 
@@ -17,7 +17,7 @@ first-requires c =
 pub loop-row-init : goal.loop-row-init
 loop-row-init c = record {
   walks = λ rows reads many. c.first.ensures.moves rows None (c.start-rows.ensures rows (read-sound Names c.args.block.now rows tt c.requires.short reads));
-  copied = λ rows reads many. ap rows_of c.new-pairs.ensures.items;
+  copied = λ rows reads many. ap rows_of_pairs c.new-pairs.ensures.items;
 }
 
 pub key-requires : goal.key-requires
@@ -41,7 +41,7 @@ loop-row-preserved c = record {
       c.next.ensures.moves rows c.loop-row._row (walks-at c.loop-row.rows rows c.loop-row._row (omega (arith, many)) (c.loop-row.invariant.walks rows reads many));
   copied = λ rows reads many.
       let at = walks-at c.loop-row.rows rows c.loop-row._row (omega (arith, many)) (c.loop-row.invariant.walks rows reads many) in
-      ap rows_of c.in_ok-push.ensures.items
+      ap rows_of_pairs c.in_ok-push.ensures.items
       ∙ copied_more rows c.loop-row._row c.key.result.now c.value.result.now c.loop-row.pairs.items c.in_ok-pair.pair
       (c.loop-row.invariant.copied rows reads many) (c.key.ensures rows c.loop-row._row at) (c.value.ensures rows c.loop-row._row at) c.in_ok-pair.ensures;
 }

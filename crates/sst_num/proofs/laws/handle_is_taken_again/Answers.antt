@@ -1,4 +1,4 @@
-use Rattle.sst_num.proofs.Reading.{handle_at-handle}
+use Rattle.sst_num.proofs.NumberReading.{handle_at-handle}
 use Rattle.sst_num.proofs.laws.handle_is_taken_again.Goals as goal
 
 pub returns : goal.returns

@@ -1,4 +1,4 @@
-use Rattle.sst_num.proofs.Reading.{varint32_at-varint}
+use Rattle.sst_num.proofs.NumberReading.{varint32_at-varint}
 use Rattle.sst_num.proofs.laws.varint32_is_taken_again.Goals as goal
 
 pub returns : goal.returns

@@ -1,4 +1,4 @@
-use Rattle.sst_num.proofs.Reading.{varint_at-varint}
+use Rattle.sst_num.proofs.NumberReading.{varint_at-varint}
 use Rattle.sst_num.proofs.laws.varint_is_taken_again.Goals as goal
 
 pub returns : goal.returns

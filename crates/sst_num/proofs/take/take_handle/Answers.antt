@@ -1,4 +1,4 @@
-use Rattle.sst_num.proofs.Reading.{handle-no_size, IfNone-holds}
+use Rattle.sst_num.proofs.NumberReading.{handle-no_size, IfNone-holds}
 use Rattle.sst_num.proofs.take.take_handle.Goals as goal
 
 pub returns-in_err-size-clause-none : goal.returns-in_err-size-clause-none

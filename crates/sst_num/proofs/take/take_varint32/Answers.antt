@@ -1,5 +1,5 @@
 use Rattle.std.proofs.Common.{arith}
-use Rattle.sst_num.proofs.Reading.{varint32-too_large}
+use Rattle.sst_num.proofs.NumberReading.{varint32-too_large}
 use Rattle.sst_num.proofs.take.take_varint32.Goals as goal
 
 pub returns-else-v-clause-none : goal.returns-else-v-clause-none

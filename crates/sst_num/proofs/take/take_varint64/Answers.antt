@@ -1,5 +1,5 @@
-use Rattle.sst_num.specs.Reading.{varint_at}
-use Rattle.sst_num.proofs.Reading.{varint_at-if_some, varint_at-if_none}
+use Rattle.sst_num.specs.NumberReading.{varint_at}
+use Rattle.sst_num.proofs.NumberReading.{varint_at-if_some, varint_at-if_none}
 use Rattle.sst_num.proofs.take.take_varint64.Goals as goal
 
 pub returns-clause-exact : goal.returns-clause-exact

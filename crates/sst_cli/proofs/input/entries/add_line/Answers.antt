@@ -1,7 +1,7 @@
 use Rattle.std.proofs.Common.{List, sym, ap, ◌∙◌}
 use Rattle.std.proofs.lemmas.Result.{on_ok_weaker}
 use Rattle.sst_key.specs.declared.entries.Entry.{Entry}
-use Rattle.sst_cli.specs.Reading.{by_entry}
+use Rattle.sst_cli.specs.InputReading.{by_entry}
 use Rattle.sst_cli.specs.declared.input.entries.InputStop.TheVariants as stop
 use Rattle.sst_text.proofs.EntryLines.{entry_of_line-seq}
 use Rattle.sst_cli.proofs.ReadLines.{read_line-short, line_refused, given_answer}

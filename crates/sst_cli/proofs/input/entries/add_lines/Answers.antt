@@ -4,7 +4,7 @@ use Rattle.std.proofs.lemmas.Result.{err_from_is_err_and}
 use Rattle.sst_cli.specs.declared.input.entries.InputStop.TheVariants as stop
 use Rattle.sst_cli.specs.declared.input.refusal.Refusal.{Refusal}
 use Rattle.sst_bbt_write.specs.After.{After}
-use Rattle.sst_cli.specs.Reading.{read_line}
+use Rattle.sst_cli.specs.InputReading.{read_line}
 use Rattle.sst_cli.proofs.ReadLines.{passed_answer}
 use Rattle.sst_cli.proofs.ReadingOn.{next_inside, next_taken, next_refused, next_none, next_not_read}
 use Rattle.sst_cli.proofs.Taken.{near_read, near_on, near_no_line, near_passed, past_next}

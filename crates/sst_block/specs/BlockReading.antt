@@ -7,7 +7,7 @@ use Rattle.std.specs.Prelude.{◌≡◌, ℕ, zero, suc, ◌+◌, ◌-◌, ◌*�
 use Rattle.std.specs.List.{list_any}
 use Rattle.std.specs.Option.{is_some}
 use Rattle.std.specs.Ordering.{is_lt}
-use Rattle.sst_num.specs.Reading.{varint32_at, handle_at, fixed_at}
+use Rattle.sst_num.specs.NumberReading.{varint32_at, handle_at, fixed_at}
 use Rattle.sst_num.specs.declared.block_handle.Handle.{Handle}
 use Rattle.sst_num.specs.declared.stops.Refused.{Refused}
 use Rattle.sst_num.specs.declared.stops.Refused.TheVariants.{Cause, Memory}

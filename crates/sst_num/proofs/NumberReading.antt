@@ -5,7 +5,7 @@ use Rattle.std.proofs.Math.Seq.{drop-append_seam}
 use Rattle.std.proofs.lemmas.Bool.{cases_lt, lt-ltb, le-ltb, ltb-true}
 use Rattle.std.proofs.lemmas.Option.{none-some, cond_some, some_pair_parts, option_and_then_some}
 use Rattle.sst_num.specs.Spelling.{varint, IsVarint, handle_spelling}
-use Rattle.sst_num.specs.Reading.{with_group, groups_at, varint_at, in_32_bits, varint32_at, handle_of, handle_at, StartsWithVarint, StartsWithHandle}
+use Rattle.sst_num.specs.NumberReading.{with_group, groups_at, varint_at, in_32_bits, varint32_at, joined_handle, handle_at, StartsWithVarint, StartsWithHandle}
 use Rattle.sst_num.specs.declared.block_handle.Handle.{Handle}
 use Rattle.sst_num.proofs.Groups.{varint-some}
 use Rattle.sst_num.proofs.Varints.{IsVarint-more, varint-spells, varint-only}
@@ -136,9 +136,9 @@ pub handle_at-found : (h : Handle) (used : ℕ) (bytes : List ℕ) → handle_at
     → StartsWithHandle bytes h used × (h.offset < 2 ^ 64) × (h.size < 2 ^ 64)
 unfolding handle_at
 handle_at-found h used bytes read =
-    option_and_then_some (λ offset. option_and_then (λ size. Some (handle_of offset size)) (varint_at (drop offset.1 bytes))) (varint_at bytes) (h, used) read
+    option_and_then_some (λ offset. option_and_then (λ size. Some (joined_handle offset size)) (varint_at (drop offset.1 bytes))) (varint_at bytes) (h, used) read
     (λ offset first later.
-    option_and_then_some (λ size. Some (handle_of offset size)) (varint_at (drop offset.1 bytes)) (h, used) later
+    option_and_then_some (λ size. Some (joined_handle offset size)) (varint_at (drop offset.1 bytes)) (h, used) later
     (λ size second last.
     let parts = some_pair_parts (record { offset = offset.0; size = size.0 }) h (offset.1 + size.1) used last in
     let a = varint_at-found offset.0 offset.1 bytes first in

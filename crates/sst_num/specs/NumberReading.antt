@@ -45,8 +45,8 @@ varint32_at bytes = option_and_then in_32_bits (varint_at bytes)
 -- the handle of an offset and a size that were read, and how many bytes both take
 -- RocksDB: table/format.cc, BlockHandle::DecodeFrom
 -- Pinned by: handles_taken
-abbrev pub handle_of : ℕ × ℕ → ℕ × ℕ → Handle × ℕ
-handle_of offset size = (record { offset = offset.0; size = size.0 }, offset.1 + size.1)
+abbrev pub joined_handle : ℕ × ℕ → ℕ × ℕ → Handle × ℕ
+joined_handle offset size = (record { offset = offset.0; size = size.0 }, offset.1 + size.1)
 
 -- the block handle at the front, and how many bytes it takes
 -- RocksDB: table/format.cc, BlockHandle::DecodeFrom
@@ -54,7 +54,7 @@ handle_of offset size = (record { offset = offset.0; size = size.0 }, offset.1 +
 unfoldable pub handle_at : List ℕ → Option (Handle × ℕ)
 handle_at bytes =
     option_and_then
-    (λ offset. option_and_then (λ size. Some (handle_of offset size)) (varint_at (drop offset.1 bytes)))
+    (λ offset. option_and_then (λ size. Some (joined_handle offset size)) (varint_at (drop offset.1 bytes)))
     (varint_at bytes)
 
 -- the number that the first n bytes spell, the lowest first; nothing where there are too few or one isn't below 256
