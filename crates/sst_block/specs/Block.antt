@@ -17,39 +17,39 @@ use Rattle.sst_block.specs.declared.row_form.RowForm.{RowForm}
 use Rattle.sst_block.specs.declared.row_form.RowForm.TheVariants.{Entries, Names, Index}
 
 -- a row of a block: a key and a value
--- Pinned by: a_data_block
+-- Pinned by: sound_blocks
 pub record Row : Type 0 where
   pub key : List ℕ
   pub value : List ℕ
 
 -- a row as it is spelled: the first `shared` bytes of its key are left to the row before
--- Pinned by: restarts_and_shared_fronts
+-- Pinned by: blocks_that_are_built
 pub record Spelled : Type 0 where
   pub shared : ℕ
   pub row : Row
 
 -- how many bytes two keys have in common at their fronts
 -- RocksDB: block_builder.cc, Add
--- Pinned by: reading_finds_exactly_the_rows, restarts_and_shared_fronts
+-- Pinned by: reading_finds_exactly_the_rows, blocks_that_are_built
 abbrev pub common : List ℕ → List ℕ → ℕ
 common [] b = 0
 common (x ∷ a) [] = 0
 common (x ∷ a) (y ∷ b) = if x == y then suc (common a b) else 0
 
 -- a row: three lengths, the rest of the key, the value
--- Pinned by: reading_finds_exactly_the_rows, a_data_block, restarts_and_shared_fronts
+-- Pinned by: reading_finds_exactly_the_rows, sound_blocks, blocks_that_are_built
 abbrev pub row_spelling : Spelled → List ℕ
 row_spelling s =
     varint s.shared ++ (varint (length s.row.key - s.shared) ++ (varint (length s.row.value) ++ (drop s.shared s.row.key ++ s.row.value)))
 
 -- each row shares no more with the row before than their keys have in common; `before` is the key before
--- Pinned by: reading_finds_exactly_the_rows, bad_rows, other_sharing
+-- Pinned by: reading_finds_exactly_the_rows, faulty_blocks, sound_blocks
 abbrev pub SharesFronts : List ℕ → List Spelled → Type 0
 SharesFronts before [] = Unit {0}
 SharesFronts before (s ∷ rest) = (s.shared ≤ common before s.row.key) × SharesFronts s.row.key rest
 
 -- where the rows begin that share nothing; `at` is where the first row begins
--- Pinned by: restarts, other_sharing, chosen_block_stands_for_its_rows
+-- Pinned by: faulty_blocks, sound_blocks, chosen_block_stands_for_its_rows
 abbrev pub fresh_starts : ℕ → List Spelled → List ℕ
 fresh_starts at [] = []
 fresh_starts at (s ∷ rest) = (if s.shared == 0 then at ∷ [] else []) ++ fresh_starts (at + length (row_spelling s)) rest
@@ -57,7 +57,7 @@ fresh_starts at (s ∷ rest) = (if s.shared == 0 then at ∷ [] else []) ++ fres
 -- the restarts: the first is 0, they increase, and each is the start of a row that shares nothing; a block
 -- without rows has the one restart 0
 -- RocksDB: block_builder.cc; that readers refuse others is own
--- Pinned by: first_fault_is_first, sound_blocks, restarts, restarts_of_few
+-- Pinned by: first_fault_is_first, sound_blocks, faulty_blocks
 abbrev pub AreRestarts : List ℕ → List Spelled → Type 0
 AreRestarts restarts [] = restarts ≡ 0 ∷ []
 AreRestarts restarts (s ∷ rest) =
@@ -65,7 +65,7 @@ AreRestarts restarts (s ∷ rest) =
 
 -- the order of the keys of a block: of stored keys, or bytewise
 -- RocksDB: db/dbformat.h
--- Pinned by: entries_in_order, names_out_of_order, calls_on_versions, nothing yet (of user keys in an index)
+-- Pinned by: sound_blocks, faulty_blocks, calls_on_versions, nothing yet (of user keys in an index)
 abbrev pub key_cmp : RowForm → List ℕ → List ℕ → Ordering
 key_cmp Entries a b = internal_cmp a b
 key_cmp Names a b = slice_cmp nat_cmp a b
@@ -73,7 +73,7 @@ key_cmp (Index true delta) a b = slice_cmp nat_cmp a b
 key_cmp (Index false delta) a b = internal_cmp a b
 
 -- each key is before the next
--- Pinned by: reading_finds_exactly_the_rows, names_out_of_order
+-- Pinned by: reading_finds_exactly_the_rows, faulty_blocks
 abbrev pub AreOrdered : RowForm → List Row → Type 0
 AreOrdered form [] = Unit {0}
 AreOrdered form (a ∷ []) = Unit {0}
@@ -81,7 +81,7 @@ AreOrdered form (a ∷ b ∷ rest) = (key_cmp form a.key b.key ≡ Less) × AreO
 
 -- the key is an internal key of one of the four kinds
 -- RocksDB: db/dbformat.h
--- Pinned by: reading_finds_exactly_the_rows, bad_kinds
+-- Pinned by: reading_finds_exactly_the_rows, faulty_blocks
 abbrev pub IsInternalKey : List ℕ → Type 0
 IsInternalKey key = (user : List ℕ) × (seq : ℕ) × (kind : Kind) × (seq < 2 ^ 56) × (key ≡ internal_key user seq kind)
 
@@ -94,7 +94,7 @@ IsHandle value = (h : Handle) × (h.offset < 2 ^ 64) × (h.size < 2 ^ 64) × (va
 -- the row has the form: its key, and its value where the form says something of it. Rows of index blocks with
 -- differences of handles are spelled in another way, and aren't said yet: no row has that form.
 -- Own.
--- Pinned by: reading_finds_exactly_the_rows, bad_kinds, handles, nothing yet (of an index with user keys)
+-- Pinned by: reading_finds_exactly_the_rows, faulty_blocks, handles, nothing yet (of an index with user keys)
 abbrev pub HasForm : RowForm → Row → Type 0
 HasForm Entries row = IsInternalKey row.key
 HasForm Names row = Unit {0}
@@ -109,7 +109,7 @@ IsRow form row = (length row.key ≤ 65544) × HasForm form row
 
 -- what follows the rows: each restart's place in four bytes, and then how many there are
 -- RocksDB: block_builder.cc, Finish
--- Pinned by: restarts_and_shared_fronts, an_empty_block
+-- Pinned by: blocks_that_are_built, sound_blocks
 abbrev pub restarts_spelling : List ℕ → List ℕ
 restarts_spelling restarts = flat_map (fixed 4) restarts ++ fixed 4 (length restarts)
 

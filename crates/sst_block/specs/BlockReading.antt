@@ -19,7 +19,7 @@ use Rattle.sst_block.specs.declared.fault.BlockFault.TheVariants.{BadRow, BadRes
 use Rattle.sst_block.specs.Block.{Row, Spelled, key_cmp, fresh_starts}
 
 -- the three lengths that a row begins with, and how many bytes they take
--- Pinned by: reading_finds_exactly_the_rows, bad_rows
+-- Pinned by: reading_finds_exactly_the_rows, faulty_blocks
 pub record Lengths : Type 0 where
   pub shared : ℕ
   pub rest : ℕ
@@ -27,7 +27,7 @@ pub record Lengths : Type 0 where
   pub used : ℕ
 
 -- three varints, one after the other
--- Pinned by: reading_finds_exactly_the_rows, bad_rows
+-- Pinned by: reading_finds_exactly_the_rows, faulty_blocks
 unfoldable pub lengths_at : List ℕ → Option Lengths
 lengths_at bytes =
     option_and_then (λ shared. option_and_then (λ rest. option_and_then (λ value.
@@ -39,7 +39,7 @@ lengths_at bytes =
 -- the lengths agree with the `room` that is left for rows: the key before has the shared bytes, the row ends within
 -- the room, and its key isn't longer than a stored key may be
 -- RocksDB: CheckAndDecodeEntry; the limit is own
--- Pinned by: reading_finds_exactly_the_rows, bad_rows, long_keys
+-- Pinned by: reading_finds_exactly_the_rows, faulty_blocks, long_keys
 abbrev pub are_within : List ℕ → ℕ → Lengths → Bool
 are_within before room l =
     nat_le l.shared (length before) && (nat_le (l.used + l.rest + l.value) room && nat_le (l.shared + l.rest) 65544)
@@ -59,7 +59,7 @@ row_by before bytes l =
 
 -- the row at the front, and how many bytes it takes
 -- RocksDB: ParseNextKey
--- Pinned by: reading_finds_exactly_the_rows, bad_rows, first_fault_is_first
+-- Pinned by: reading_finds_exactly_the_rows, faulty_blocks, first_fault_is_first
 abbrev pub row_of_lengths : List ℕ → List ℕ → Lengths → Option (Spelled × ℕ)
 row_of_lengths before bytes l =
     if are_within before (length bytes) l then Some (row_by before bytes l, l.used + l.rest + l.value) else None
@@ -69,7 +69,7 @@ row_at before bytes = option_and_then (row_of_lengths before bytes) (lengths_at 
 
 -- the keys of the form end with a tag
 -- RocksDB: db/dbformat.h
--- Pinned by: reading_finds_exactly_the_rows, bad_rows, handles
+-- Pinned by: reading_finds_exactly_the_rows, faulty_blocks, handles
 abbrev pub has_tag : RowForm → Bool
 has_tag Entries = true
 has_tag Names = false
@@ -77,7 +77,7 @@ has_tag (Index user_key delta) = not user_key
 
 -- the key is an internal key: its last eight bytes are a tag with one of the four kinds
 -- RocksDB: db/dbformat.h, ParseInternalKey
--- Pinned by: reading_finds_exactly_the_rows, bad_kinds
+-- Pinned by: reading_finds_exactly_the_rows, faulty_blocks
 abbrev pub is_internal_key : List ℕ → Bool
 is_internal_key key = is_some (parts_of key) && is_some (fixed_at 8 (drop (length key - 8) key))
 
@@ -93,7 +93,7 @@ is_handle value = is_whole (length value) (handle_at value)
 
 -- what the form says of a row's value and of the kind in its key, in this order; `at` is where the row begins
 -- Own.
--- Pinned by: first_fault_is_first, bad_kinds, handles
+-- Pinned by: first_fault_is_first, faulty_blocks, handles
 abbrev pub form_fault : RowForm → ℕ → Row → Option BlockFault
 form_fault Entries at row = if is_internal_key row.key then None else Some (BadKind at)
 form_fault Names at row = None
@@ -101,7 +101,7 @@ form_fault (Index user_key delta) at row = if is_handle row.value then None else
 
 -- the key is after the one before, if there is one
 -- Own.
--- Pinned by: first_fault_is_first, names_out_of_order, entries_in_order
+-- Pinned by: first_fault_is_first, faulty_blocks, sound_blocks
 abbrev pub is_after : RowForm → Option (List ℕ) → List ℕ → Bool
 is_after form None key = true
 is_after form (Some before) key = is_lt (key_cmp form before key)
@@ -145,7 +145,7 @@ then_read (Err fault) next = Err fault
 
 -- the row at the front, if it has no damage
 -- Own.
--- Pinned by: first_fault_is_first, bad_rows
+-- Pinned by: first_fault_is_first, faulty_blocks
 abbrev pub sound_row : RowForm → ℕ → Option (List ℕ) → Option (Spelled × ℕ) → Result (Spelled × ℕ) BlockFault
 sound_row form at before None = Err (BadRow at)
 sound_row form at before (Some read) = unless read (row_fault form at before read.0.row)
@@ -174,18 +174,18 @@ unfoldable pub rows_read : RowForm → List ℕ → Result (List Spelled) BlockF
 rows_read form bytes = rows_from (length bytes) form 0 None bytes
 
 -- the number of restarts agrees with the block's length: there is one at least, and they stand before the footer
--- Pinned by: first_fault_is_first, bad_footers
+-- Pinned by: first_fault_is_first, faulty_blocks
 abbrev pub fits_in : ℕ → ℕ → Bool
 fits_in size count = nat_lt 0 count && nat_le (4 * count + 4) size
 
 -- the number of four bytes at the front, if it passes the test
--- Pinned by: first_fault_is_first, bad_footers
+-- Pinned by: first_fault_is_first, faulty_blocks
 abbrev pub number_where : (ℕ → Bool) → List ℕ → Option ℕ
 number_where test bytes = option_and_then (λ n. if test n then Some n else None) (fixed_at 4 bytes)
 
 -- how many restarts the footer says, which is the last four bytes, if it is good; bit 31 would say that a hash part is
 -- there, and for now makes the number too large
--- Pinned by: first_fault_is_first, bad_footers
+-- Pinned by: first_fault_is_first, faulty_blocks
 abbrev pub restart_count : List ℕ → Option ℕ
 restart_count bytes =
     if nat_lt (length bytes) 8 then None else number_where (fits_in (length bytes)) (drop (length bytes - 4) bytes)
@@ -197,20 +197,20 @@ rows_end bytes count = length bytes - 4 - 4 * count
 
 -- a restart other than the first is after the one before, and is one of the `fresh` places
 -- Own.
--- Pinned by: first_fault_is_first, restarts
+-- Pinned by: first_fault_is_first, faulty_blocks
 abbrev pub may_follow : List ℕ → ℕ → ℕ → Bool
 may_follow fresh before restart = nat_lt before restart && list_any (nat_eq restart) fresh
 
 -- a damage where there is no number, else what comes of the number
 -- Own.
--- Pinned by: first_fault_is_first, restarts
+-- Pinned by: first_fault_is_first, faulty_blocks
 abbrev pub by_number : BlockFault → Option ℕ → (ℕ → Option BlockFault) → Option BlockFault
 by_number fault None next = Some fault
 by_number fault (Some n) next = next n
 
 -- of the next n restarts the first that may not follow the one before; `i` is the number of the first of them
 -- Own.
--- Pinned by: first_fault_is_first, restarts
+-- Pinned by: first_fault_is_first, faulty_blocks
 abbrev pub restart_fault : List ℕ → ℕ → ℕ → ℕ → List ℕ → Option BlockFault
 restart_fault fresh zero i before bytes = None
 restart_fault fresh (suc n) i before bytes =
@@ -220,7 +220,7 @@ restart_fault fresh (suc n) i before bytes =
 -- the first restart that breaks a rule: the first of all is 0, and each other one is after the one before and is the
 -- start of a row that shares nothing
 -- Own.
--- Pinned by: first_fault_is_first, restarts_of_few
+-- Pinned by: first_fault_is_first, faulty_blocks
 abbrev pub restarts_fault : List ℕ → ℕ → List ℕ → Option BlockFault
 restarts_fault fresh zero bytes = None
 restarts_fault fresh (suc n) bytes =

@@ -12,7 +12,7 @@ use Rattle.sst_block.specs.Chosen.{chosen, restarts_of, block_of}
 
 -- the form has no flags: its keys are stored whole and its handles stand as they are
 -- Own, for now.
--- Pinned by: an_index_block (too strict), reading_finds_exactly_the_rows.sound (too loose)
+-- Pinned by: sound_blocks (too strict), reading_finds_exactly_the_rows.sound (too loose)
 abbrev pub HasNoFlags : RowForm → Type 0
 HasNoFlags Entries = Unit {0}
 HasNoFlags Names = Unit {0}

@@ -5,27 +5,27 @@ use Rattle.std.specs.List.{flat_map}
 use Rattle.sst_block.specs.Block.{Row, Spelled, common, row_spelling, restarts_spelling}
 
 -- the rows as they are spelled; `i` is the number of the first, `before` the key before it
--- Pinned by: each_group_begins_whole, restarts_and_shared_fronts
+-- Pinned by: each_group_begins_whole, blocks_that_are_built
 abbrev pub chosen : ℕ → ℕ → List ℕ → List Row → List Spelled
 chosen interval i before [] = []
 chosen interval i before (row ∷ rows) =
     record { shared = if i % interval == 0 then 0 else common before row.key; row = row } ∷ chosen interval (i + 1) row.key rows
 
 -- where each `interval`-th row begins; `i` is the number of the first, `at` its place
--- Pinned by: restarts_and_shared_fronts, a_third_restart
+-- Pinned by: blocks_that_are_built, second_and_third_restarts
 abbrev pub restarts_from : ℕ → ℕ → ℕ → List Spelled → List ℕ
 restarts_from interval i at [] = []
 restarts_from interval i at (s ∷ rest) =
     (if i % interval == 0 then at ∷ [] else []) ++ restarts_from interval (i + 1) (at + length (row_spelling s)) rest
 
 -- the restarts of all rows; a block without rows has the one restart 0
--- Pinned by: an_empty_block, chosen_block_stands_for_its_rows
+-- Pinned by: sound_blocks, chosen_block_stands_for_its_rows
 abbrev pub restarts_of : ℕ → List Spelled → List ℕ
 restarts_of interval [] = 0 ∷ []
 restarts_of interval (s ∷ rest) = restarts_from interval 0 0 (s ∷ rest)
 
 -- the bytes of the block
--- Pinned by: restarts_and_shared_fronts, chosen_block_stands_for_its_rows
+-- Pinned by: blocks_that_are_built, chosen_block_stands_for_its_rows
 unfoldable pub block_of : ℕ → List Row → List ℕ
 block_of interval rows =
     let spelled = chosen interval 0 [] rows in

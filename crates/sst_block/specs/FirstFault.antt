@@ -21,7 +21,7 @@ rows_spelled spelled = map (λ (s : Spelled). s.row) spelled
 
 -- the bytes end with the number of restarts, which is one at least, and have room for them before it
 -- RocksDB: block.cc, Block::NumRestarts
--- Pinned by: first_fault_is_first, bad_footers
+-- Pinned by: first_fault_is_first, faulty_blocks
 pub record HasFooter (bytes : List ℕ) (count : ℕ) : Type 0 where
   pub front : List ℕ
   pub joined : bytes ≡ front ++ fixed 4 count
@@ -39,7 +39,7 @@ pub record AreSound (form : RowForm) (spelled : List Spelled) : Type 0 where
 -- the lengths of a row are good: it shares no more with the key before than they have in common, its key isn't too
 -- long, its value's length is a number of 32 bits, and a key with a tag has the eight bytes of it
 -- RocksDB: CheckAndDecodeEntry; the limit is own
--- Pinned by: first_fault_is_first, bad_rows
+-- Pinned by: first_fault_is_first, faulty_blocks
 pub record HasGoodLengths (form : RowForm) (before : List ℕ) (s : Spelled) : Type 0 where
   pub shares : s.shared ≤ common before s.row.key
   pub short : length s.row.key ≤ 65544
@@ -69,7 +69,7 @@ HasHandles (Index user_key delta) = Unit {0}
 -- after the good rows the bytes begin, at this place, with a row that has the damage. Of two damages of one row the
 -- first is that of its lengths, then what the form says, then the order.
 -- Own.
--- Pinned by: first_fault_is_first, bad_kinds, handles
+-- Pinned by: first_fault_is_first, faulty_blocks, handles
 abbrev pub IsRowFault : RowForm → List Spelled → ℕ → List ℕ → BlockFault → Type 0
 IsRowFault form good at bytes (BadRow place) = (place ≡ at) × BeginsNoRow form (last_key [] (rows_spelled good)) bytes
 IsRowFault form good at bytes (BadKind place) =
@@ -99,7 +99,7 @@ pub record HasFaultyRow (form : RowForm) (bytes : List ℕ) (fault : BlockFault)
 -- the bytes hold sound rows alone, and then restarts of which number i is the first that breaks a rule: those before
 -- it keep them, and with what stands in its place they don't
 -- Own.
--- Pinned by: first_fault_is_first, restarts, restarts_of_few
+-- Pinned by: first_fault_is_first, faulty_blocks
 pub record HasFaultyRestart (form : RowForm) (bytes : List ℕ) (i : ℕ) : Type 0 where
   pub count : ℕ
   pub spelled : List Spelled

@@ -7,14 +7,14 @@ use Rattle.sst_block.specs.BlockReading.{row_at}
 
 -- the bytes are these rows, one after the other; `before` is the key before the first
 -- RocksDB: block.cc, ParseNextKey
--- Pinned by: next.moves, walked_as_built
+-- Pinned by: next.moves, blocks_that_are_built
 abbrev pub AreRows : List ℕ → List ℕ → List Row → Type 0
 AreRows before bytes [] = bytes ≡ []
 AreRows before bytes (row ∷ rows) =
     (s : Spelled) × (used : ℕ) × (row_at before bytes ≡ Some (s, used)) × (s.row ≡ row) × AreRows row.key (drop used bytes) rows
 
 -- the walk shows this row, and these come after it
--- Pinned by: key, value, walked_as_built
+-- Pinned by: key, value, blocks_that_are_built
 pub record Shows (it : BlockIter) (row : Row) (more : List Row) : Type 0 where
   pub stands : it.stands ≡ true
   pub key : it.key ≡ row.key
@@ -36,6 +36,6 @@ pub record Walks (it : BlockIter) (rows : List Row) (place : Option ℕ) : Type 
 
 -- the i-th row, or nowhere where there is none
 -- RocksDB: Valid
--- Pinned by: next.moves, next.tells, walked_entries
+-- Pinned by: next.moves, next.tells, sound_blocks
 abbrev pub place_of : List Row → ℕ → Option ℕ
 place_of rows i = if nat_lt i (length rows) then Some i else None

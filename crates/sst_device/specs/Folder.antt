@@ -1,6 +1,6 @@
 -- What a folder tells of its files, and what its calls make of them. A folder may tell nothing: then each
 -- of these is `None` and says nothing.
--- Pinned by: one_file_changes, a_folder_in_memory
+-- Pinned by: one_file_changes, folders_in_memory
 use Rattle.std.specs.Prelude.{ℕ, ◌+◌, Bool, true, false, List, ◌++◌, length, take, drop, nat_lt, Option, Some, None, option_and_then}
 use Rattle.std.specs.Option.{option_map}
 use Rattle.std.specs.Ordering.{nat_cmp}
@@ -8,12 +8,12 @@ use Rattle.std.specs.Cmp.Lexicographic.{slice_cmp}
 use Rattle.std.specs.FinMap.{FinMap, get, insert}
 
 -- the bytes of each file, by the bytes of its name
--- Pinned by: a_folder_in_memory
+-- Pinned by: folders_in_memory
 abbrev pub Files : Type 0
 Files = FinMap (slice_cmp nat_cmp) (List ℕ)
 
 -- the bytes of the named file, where they are told
--- Pinned by: file, a_folder_in_memory
+-- Pinned by: file, folders_in_memory
 abbrev pub file_of : Option Files → List ℕ → Option (List ℕ)
 file_of held name = option_and_then (λ files. get files name) held
 
@@ -31,13 +31,13 @@ abbrev pub edit_file : Option Files → List ℕ → (List ℕ → List ℕ) →
 edit_file held name change = option_map (λ files. changed_file files name change (get files name)) held
 
 -- the file isn't there, or ends before `end`
--- Pinned by: a_folder_in_memory, a_stored_block
+-- Pinned by: folders_in_memory, stored_blocks
 abbrev pub ends_before : Option (List ℕ) → ℕ → Bool
 ends_before None end = true
 ends_before (Some bytes) end = nat_lt (length bytes) end
 
 -- a call that needs the first `end` bytes of the named file misses: the folder tells that they aren't there
--- Pinned by: read_at.miss, read_at.failed, a_folder_in_memory
+-- Pinned by: read_at.miss, read_at.failed, folders_in_memory
 abbrev pub misses : Option Files → List ℕ → ℕ → Bool
 misses None name end = false
 misses (Some files) name end = ends_before (get files name) end

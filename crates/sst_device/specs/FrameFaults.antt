@@ -10,13 +10,13 @@ use Rattle.sst_device.specs.declared.frame.FrameFault.{FrameFault}
 use Rattle.sst_device.specs.declared.frame.FrameFault.TheVariants.{OutOfFile, TooLarge, Checksum, Compressed}
 
 -- the block and its trailer end before the footer
--- Pinned by: a_frame_fault_is_the_first, handles_that_are_faults
+-- Pinned by: a_frame_fault_is_the_first, blocks_that_are_read
 abbrev pub IsInFile : ℕ → Handle → Type 0
 IsInFile end h = h.offset + h.size + 5 ≤ end
 
 -- behind the block and its type byte stands their checksum
 -- RocksDB: table/format.cc, ComputeBuiltinChecksumWithLastByte
--- Pinned by: a_frame_fault_is_the_first, blocks_that_are_faults
+-- Pinned by: a_frame_fault_is_the_first, blocks_that_are_read
 abbrev pub HasChecksum : List ℕ → Handle → Type 0
 HasChecksum file h = bytes_at file (h.offset + h.size + 1) 4 ≡ fixed 4 (mask (crc32c (bytes_at file h.offset (h.size + 1))))
 

@@ -1,7 +1,7 @@
 -- What a block handle leads to in a file: the block that is stored there, or the first thing that is wrong.
 -- RocksDB: table/block_fetcher.cc (BlockFetcher::ReadBlockContents, ProcessTrailerIfPresent) and VerifyBlockChecksum
 -- in table/block_based/reader_common.cc.
--- Pinned by: a_stored_block_is_read, blocks_that_are_faults
+-- Pinned by: a_stored_block_is_read, blocks_that_are_read
 use Rattle.std.specs.Prelude.{ℕ, ◌+◌, ◌^◌, ◌==◌, nat_lt, if◌then◌else◌, List, take, drop, slice_index, Option, None, Some, Result, Ok, Err, Bool, false}
 use Rattle.sst_num.specs.NumberReading.{fixed_at}
 use Rattle.sst_num.specs.declared.block_handle.Handle.{Handle}
@@ -12,7 +12,7 @@ use Rattle.sst_device.specs.declared.frame.FrameFault.TheVariants.{OutOfFile, To
 
 -- what is wrong before anything is read: the block or its trailer passes the end, or the block is too large. `end` is
 -- the file's length without its footer.
--- Pinned by: a_frame_fault_is_the_first, handles_that_are_faults
+-- Pinned by: a_frame_fault_is_the_first, blocks_that_are_read
 abbrev pub early_fault : ℕ → Handle → Option FrameFault
 early_fault end h =
     if nat_lt end (h.offset + h.size + 5) then Some (OutOfFile h)
@@ -29,12 +29,12 @@ abbrev pub has_checksum : ℕ → List ℕ → Bool
 has_checksum n stored = is_checksum_of (take (n + 1) stored) (fixed_at 4 (drop (n + 1) stored))
 
 -- the type byte behind a block of n bytes
--- Pinned by: a_frame_fault_is_the_first, blocks_that_are_faults
+-- Pinned by: a_frame_fault_is_the_first, blocks_that_are_read
 abbrev pub type_byte : ℕ → List ℕ → ℕ
 type_byte n stored = slice_index stored n
 
 -- the block of a handle in its stored bytes, which are the block and its trailer: first the checksum, then the type
--- Pinned by: a_frame_fault_is_the_first, blocks_that_are_faults
+-- Pinned by: a_frame_fault_is_the_first, blocks_that_are_read
 unfoldable pub opened : Handle → List ℕ → Result (List ℕ) FrameFault
 opened h stored =
     if has_checksum h.size stored

@@ -2,7 +2,7 @@
 -- RocksDB: BlockBasedTable::kBlockTrailerSize in table/block_based/block_based_table_reader.h,
 -- ComputeBuiltinChecksumWithLastByte in table/format.cc, and
 -- BlockBasedTableBuilder::WriteMaybeCompressedBlock in table/block_based/block_based_table_builder.cc.
--- Pinned by: a_stored_block, an_empty_block
+-- Pinned by: stored_blocks
 use Rattle.std.specs.Prelude.{◌≡◌, ℕ, ◌+◌, ◌^◌, ◌≤◌, List, [], ◌∷◌, ◌++◌, take, drop}
 use Rattle.sst_num.specs.Spelling.{fixed}
 use Rattle.sst_num.specs.declared.block_handle.Handle.{Handle}
@@ -17,7 +17,7 @@ unfoldable pub trailer_of : List ℕ → List ℕ
 trailer_of block = 0 ∷ stored_checksum block
 
 -- a stored block
--- Pinned by: frame_is_framed, an_empty_block
+-- Pinned by: frame_is_framed, stored_blocks
 abbrev pub frame_of : List ℕ → List ℕ
 frame_of block = block ++ trailer_of block
 
@@ -29,7 +29,7 @@ bytes_at file at n = take n (drop at file)
 
 -- The block that a handle stands for in a file. `end` is the file's length without its footer.
 -- RocksDB: table/block_based/block_based_table_reader.h, kBlockTrailerSize; the limit is own
--- Pinned by: a_stored_block_is_read, handles_that_are_faults, blocks_that_are_faults
+-- Pinned by: a_stored_block_is_read, blocks_that_are_read
 pub record Framed (file : List ℕ) (end : ℕ) (handle : Handle) (block : List ℕ) : Type 0 where
   -- the block and its trailer end before the footer
   pub within : handle.offset + handle.size + 5 ≤ end

@@ -1,5 +1,5 @@
 -- What the files of a folder in memory stand for.
--- Pinned by: put_file.ok, a_folder_in_memory
+-- Pinned by: put_file.ok, folders_in_memory
 use Rattle.std.specs.Prelude.{ℕ, Bool, List, map, nat_eq}
 use Rattle.std.specs.Cmp.Lexicographic.{pointwise}
 use Rattle.std.specs.FinMap.{from_entries}

@@ -1,5 +1,5 @@
 -- Which calls of an object in memory fail. Its calls are numbered from 1.
--- Pinned by: failing_calls_on_a_folder
+-- Pinned by: folders_in_memory
 use Rattle.std.specs.Prelude.{◌≡◌, ◌≢◌, ℕ, List, Bool, true, false, eqb, if◌then◌else◌, Option, Result, Err}
 use Rattle.std.specs.List.{list_any}
 use Rattle.sst_device.specs.Faults.{counted}
@@ -23,7 +23,7 @@ abbrev pub after_call : Plan → Plan
 after_call plan = record { fail_at = plan.fail_at; calls = counted plan.calls 1 }
 
 -- the next call is one of those that are to fail
--- Pinned by: failing_calls_on_a_folder, streams_in_memory
+-- Pinned by: folders_in_memory, outputs_in_memory
 abbrev pub fails_next : Plan → Bool
 fails_next plan = list_any (λ number. eqb (counted plan.calls 1) number) plan.fail_at
 
@@ -33,12 +33,12 @@ abbrev pub faults_after : Plan → ℕ → ℕ
 faults_after plan faults = if fails_next plan then counted faults 1 else faults
 
 -- the next call, which needs the first `end` bytes of the named file, is to fail or misses
--- Pinned by: a_folder_in_memory, failing_calls_on_a_folder
+-- Pinned by: folders_in_memory
 abbrev pub fails_or_misses : Plan → Option Files → List ℕ → ℕ → Bool
 fails_or_misses plan held name end = if fails_next plan then true else misses held name end
 
 -- a call answers Failed exactly where the test holds
--- Pinned by: a_folder_in_memory, failing_calls_on_a_folder
+-- Pinned by: folders_in_memory
 abbrev pub FailsWhere : {A : Type 0} → Bool → Result A DevStop → Type 0
 FailsWhere true result = result ≡ Err Failed
 FailsWhere false result = result ≢ Err Failed

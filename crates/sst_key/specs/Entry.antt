@@ -35,7 +35,7 @@ key_of e = internal_key e.user e.seq e.kind
 
 -- the entry that a view lends
 -- Own.
--- Pinned by: put_entry_line.ok, lines_of_replies
+-- Pinned by: put_entry_line.ok, lists
 abbrev pub entry_of : EntryView → Entry
 entry_of v = record { user = v.user.now; seq = v.seq; kind = v.kind; value = v.value.now }
 

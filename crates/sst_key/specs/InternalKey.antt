@@ -14,18 +14,18 @@ abbrev pub user_of : List ℕ → List ℕ
 user_of key = take (length key - 8) key
 
 -- the tag: the last eight bytes as a number
--- Pinned by: internal_order_is_entry_order, unpacked_keys
+-- Pinned by: internal_order_is_entry_order, packed_keys
 abbrev pub tag_of : List ℕ → ℕ
 tag_of key = fixed_value (drop (length key - 8) key)
 
 -- user keys bytewise, and among equal ones the greater tag first
--- Pinned by: internal_order_is_entry_order, compared_keys, lists_that_fit, lines_out_of_order
+-- Pinned by: internal_order_is_entry_order, compared_keys, lists_that_fit, refused_lines
 abbrev pub internal_cmp : List ℕ → List ℕ → Ordering
 internal_cmp a b = ordering_then (slice_cmp nat_cmp (user_of a) (user_of b)) (nat_cmp (tag_of b) (tag_of a))
 
 -- the kind that a number stands for, if it stands for one
 -- RocksDB: db/dbformat.h, ValueType
--- Pinned by: packed_is_unpacked, unpacked_keys, unpack.causes
+-- Pinned by: packed_is_unpacked, packed_keys, unpack.causes
 abbrev pub kind_numbered : ℕ → Option Kind
 kind_numbered n =
     if n == 0 then Some Deletion
@@ -41,12 +41,12 @@ abbrev pub IsKindNumber : ℕ → Type 0
 IsKindNumber n = (n ≡ 0) ⊎ (n ≡ 1) ⊎ (n ≡ 2) ⊎ (n ≡ 7)
 
 -- the kind byte: the lowest of the tag
--- Pinned by: unpacked_keys
+-- Pinned by: packed_keys
 abbrev pub kind_byte : List ℕ → ℕ
 kind_byte key = tag_of key % 256
 
 -- what a stored key says: how long its user key is, the sequence number and the kind
--- Pinned by: packed_is_unpacked, unpacked_keys
+-- Pinned by: packed_is_unpacked, packed_keys
 abbrev pub parts_of : List ℕ → Option (ℕ × ℕ × Kind)
 parts_of key =
     if nat_lt (length key) 8 then None

@@ -17,7 +17,7 @@ use Rattle.sst_key.specs.declared.calls.Answer.{Answer}
 -- how an entry stands to a target, a user key and a sequence number: the user keys bytewise, and then the greater
 -- sequence number first
 -- RocksDB: db/dbformat.h, InternalKeyComparator::Compare; db/lookup_key.h, LookupKey
--- Pinned by: targets_compare_as_said, one_user_key, past_the_end
+-- Pinned by: targets_compare_as_said, calls_over_lists
 abbrev pub target_cmp : List ℕ → ℕ → Entry → Ordering
 target_cmp user seq e = ordering_then (slice_cmp nat_cmp e.user user) (nat_cmp seq e.seq)
 
@@ -79,13 +79,13 @@ last_of entries = place_before (length entries)
 
 -- where Seek lands: after all entries that are before the target
 -- RocksDB: include/rocksdb/iterator.h, Seek
--- Pinned by: seek_lands_on_the_first_not_before, one_user_key
+-- Pinned by: seek_lands_on_the_first_not_before, calls_over_lists
 abbrev pub seek_of : List Entry → List ℕ → ℕ → Option ℕ
 seek_of entries user seq = place_in entries (below entries user seq)
 
 -- where SeekForPrev lands: at the last of the entries that are before the target or at it
 -- RocksDB: include/rocksdb/iterator.h, SeekForPrev
--- Pinned by: seek_for_prev_lands_on_the_last_up_to, one_user_key
+-- Pinned by: seek_for_prev_lands_on_the_last_up_to, calls_over_lists
 abbrev pub seek_for_prev_of : List Entry → List ℕ → ℕ → Option ℕ
 seek_for_prev_of entries user seq = place_before (up_to entries user seq)
 
@@ -109,13 +109,13 @@ is_of_user user e = bytes_eq e.user user
 
 -- what Get shows: the entry after all that are before the target, if it has the target's user key
 -- RocksDB: include/rocksdb/db.h, DB::Get
--- Pinned by: get_shows_the_newest, one_user_key
+-- Pinned by: get_shows_the_newest, calls_over_lists
 abbrev pub get_of : List Entry → List ℕ → ℕ → Option ℕ
 get_of entries user seq =
     where_passes (is_of_user user) (below entries user seq) (slice_get entries (below entries user seq))
 
 -- the formats that lack a call: plain tables can't go back, and cuckoo tables have no SeekForPrev
--- Pinned by: a_plain_table, a_cuckoo_table, the_way_is_the_lists, a_plain_table_goes_on_alone, no_prefixes_elsewhere
+-- Pinned by: calls_over_lists, the_way_is_the_lists
 abbrev pub lacks : Format → Call → Bool
 lacks Plain Last = true
 lacks Plain (SeekForPrev target) = true
@@ -132,14 +132,14 @@ is_prefix_mode Cuckoo prefix = false
 
 -- the user key has a whole prefix, and the entry's begins with it
 -- RocksDB: table/plain/plain_table_reader.cc, PlainTableIterator::Seek
--- Pinned by: seek_stays_within_a_prefix, a_plain_table
+-- Pinned by: seek_stays_within_a_prefix, calls_over_lists
 abbrev pub begins_alike : ℕ → List ℕ → Entry → Bool
 begins_alike prefix user e =
     if nat_lt (length user) prefix then false else starts_with nat_eq e.user (take prefix user)
 
 -- where Seek lands in a format
 -- RocksDB: table/plain/plain_table_reader.cc, PlainTableIterator::Seek
--- Pinned by: a_plain_table, the_way_is_the_lists
+-- Pinned by: calls_over_lists, the_way_is_the_lists
 abbrev pub seek_in : Format → ℕ → List Entry → List ℕ → ℕ → Option ℕ
 seek_in format prefix entries user seq =
     if is_prefix_mode format prefix
@@ -148,46 +148,46 @@ seek_in format prefix entries user seq =
 
 -- an entry is shown, or none, and the position stays
 -- RocksDB: include/rocksdb/iterator.h, Valid
--- Pinned by: one_user_key, past_the_end, a_plain_table
+-- Pinned by: calls_over_lists
 abbrev pub shows : Option ℕ → Option ℕ → Answer
 shows position None = record { reply = reply.None; shown = None; position = position }
 shows position (Some i) = record { reply = reply.Shown; shown = Some i; position = position }
 
 -- a move shows where it landed, and that is the position
 -- RocksDB: include/rocksdb/iterator.h, Valid
--- Pinned by: one_user_key, past_the_end, a_plain_table
+-- Pinned by: calls_over_lists
 abbrev pub lands : Option ℕ → Answer
 lands place = shows place place
 
 -- the call is lacking: nothing is shown, and the position stays
 -- Own.
--- Pinned by: one_user_key, past_the_end, a_plain_table
+-- Pinned by: calls_over_lists
 abbrev pub lacking : Option ℕ → Answer
 lacking position = record { reply = reply.Lacks; shown = None; position = position }
 
 -- a step from nowhere: nothing is shown, and the position is nowhere
 -- Own.
--- Pinned by: one_user_key, past_the_end, a_plain_table
+-- Pinned by: calls_over_lists
 abbrev pub not_positioned : Answer
 not_positioned = record { reply = reply.NotPositioned; shown = None; position = None }
 
 -- one place on from the position
 -- RocksDB: include/rocksdb/iterator.h, Next, Prev
--- Pinned by: first_and_next_go_through, last_and_prev_go_back, past_the_end
+-- Pinned by: first_and_next_go_through, last_and_prev_go_back, calls_over_lists
 abbrev pub steps_on : List Entry → Option ℕ → Answer
 steps_on entries None = not_positioned
 steps_on entries (Some i) = lands (next_of entries i)
 
 -- one place back from the position
 -- RocksDB: include/rocksdb/iterator.h, Next, Prev
--- Pinned by: first_and_next_go_through, last_and_prev_go_back, past_the_end
+-- Pinned by: first_and_next_go_through, last_and_prev_go_back, calls_over_lists
 abbrev pub steps_back : Option ℕ → Answer
 steps_back None = not_positioned
 steps_back (Some i) = lands (prev_of i)
 
 -- what a call answers that the format has
 -- RocksDB: include/rocksdb/db.h, iterator.h
--- Pinned by: one_user_key, past_the_end, no_entries
+-- Pinned by: calls_over_lists
 abbrev pub answer_to : Format → ℕ → List Entry → Option ℕ → Call → Answer
 answer_to format prefix entries position (Get target) = shows position (get_of entries target.user target.seq)
 answer_to format prefix entries position First = lands (first_of entries)
@@ -199,7 +199,7 @@ answer_to format prefix entries position Prev = steps_back position
 
 -- what a call answers at a position (None is nowhere), in a format, with the length of a plain table's prefixes
 -- RocksDB: include/rocksdb/db.h, iterator.h
--- Pinned by: a_plain_table, a_plain_table_goes_on_alone
+-- Pinned by: calls_over_lists
 abbrev pub answer_of : Format → ℕ → List Entry → Option ℕ → Call → Answer
 answer_of format prefix entries position call =
     if lacks format call then lacking position else answer_to format prefix entries position call

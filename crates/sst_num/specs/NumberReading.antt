@@ -9,17 +9,17 @@ use Rattle.sst_num.specs.Spelling.{varint, handle_spelling}
 -- a byte from 128 on may stand before the groups of a number: the number isn't 0, which would be a needless
 -- group, and both together are below 2 ^ 64
 -- Own: RocksDB also takes a varint that is longer than it need be, and of a greater number the lowest 64 bits.
--- Pinned by: what_is_read_stands_there, varints_taken
+-- Pinned by: what_is_read_stands_there, varints
 abbrev pub goes_before : ℕ → ℕ → Bool
 goes_before b high = nat_lt b 256 && (nat_lt 0 high && nat_lt (b - 128 + 128 * high) (2 ^ 64))
 
 -- the number of a group and of those after it, and how many bytes they take
--- Pinned by: varints_taken, take_varint64.found
+-- Pinned by: varints, take_varint64.found
 abbrev pub with_group : ℕ → ℕ × ℕ → Option (ℕ × ℕ)
 with_group b rest = if goes_before b rest.0 then Some (b - 128 + 128 * rest.0, rest.1 + 1) else None
 
 -- the number that at most n groups at the front spell, and how many bytes they take
--- Pinned by: varint_is_taken_again, varints_taken
+-- Pinned by: varint_is_taken_again, varints
 abbrev pub groups_at : ℕ → List ℕ → Option (ℕ × ℕ)
 groups_at zero bytes = None
 groups_at (suc n) [] = None
@@ -33,24 +33,24 @@ varint_at bytes = groups_at 10 bytes
 
 -- what was read, if its number is below 2 ^ 32
 -- Own: GetVarint32Ptr takes of a greater number the lowest 32 bits.
--- Pinned by: varints_of_32_bits_taken
+-- Pinned by: varints
 abbrev pub in_32_bits : ℕ × ℕ → Option (ℕ × ℕ)
 in_32_bits read = if nat_lt read.0 (2 ^ 32) then Some read else None
 
 -- the number below 2 ^ 32 whose varint is at the front, and how many bytes it takes
--- Pinned by: varint32_is_taken_again, varints_of_32_bits_taken
+-- Pinned by: varint32_is_taken_again, varints
 unfoldable pub varint32_at : List ℕ → Option (ℕ × ℕ)
 varint32_at bytes = option_and_then in_32_bits (varint_at bytes)
 
 -- the handle of an offset and a size that were read, and how many bytes both take
 -- RocksDB: table/format.cc, BlockHandle::DecodeFrom
--- Pinned by: handles_taken
+-- Pinned by: handles
 abbrev pub joined_handle : ℕ × ℕ → ℕ × ℕ → Handle × ℕ
 joined_handle offset size = (record { offset = offset.0; size = size.0 }, offset.1 + size.1)
 
 -- the block handle at the front, and how many bytes it takes
 -- RocksDB: table/format.cc, BlockHandle::DecodeFrom
--- Pinned by: handle_is_taken_again, handles_taken
+-- Pinned by: handle_is_taken_again, handles
 unfoldable pub handle_at : List ℕ → Option (Handle × ℕ)
 handle_at bytes =
     option_and_then

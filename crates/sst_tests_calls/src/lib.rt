@@ -7,20 +7,23 @@
 //! Expected answers come from a count by hand over the list, and files of another writer from an independent program,
 //! never from the output of this program.
 //!
-//! - [`calls`]: answers from files that were written here and from files of another writer.
-//! - [`calls_counted`]: answers at every target, as a plain count over the list gives them.
-//! - [`calls_blocks`]: answers from files of many data blocks of another writer.
+//! - [`lists`]: answers from files that were written here.
+//! - [`foreign`]: answers from files of another writer.
+//! - [`separators`]: answers by the index, where it isn't the list's.
+//! - [`counted`]: answers at every target, as a plain count over the list gives them.
 //! - [`other_names`]: files with names and properties that a reader passes by.
-//! - [`calls_outside`]: words, inputs that are refused, a file that isn't there, and calls outside that fail.
+//! - [`outside`]: inputs that are refused, a file that isn't there, and calls outside that fail.
 #![tactic(auto)]
 
 #[cfg(test)]
-mod calls;
+mod counted;
 #[cfg(test)]
-mod calls_blocks;
+mod foreign;
 #[cfg(test)]
-mod calls_counted;
-#[cfg(test)]
-mod calls_outside;
+mod lists;
 #[cfg(test)]
 mod other_names;
+#[cfg(test)]
+mod outside;
+#[cfg(test)]
+mod separators;

@@ -1,9 +1,8 @@
 //! The option for the size of data blocks: `sst write block OUT block=N`, where N is 64 to 16,777,216.
 //!
 //! The words are this project's own. RocksDB: `BlockBasedTableOptions::block_size` in include/rocksdb/table.h.
-use crate::one_block::written_file;
+use crate::files::written_file;
 use sst_cli::Status;
-use sst_tests_shared::asserting::assert_no_command;
 use sst_tests_shared::worked_run::{
     NAME, NONE_FAILS, holds, other_is_as_it_was, printed, run_on, still_to_come, written_with,
 };
@@ -35,80 +34,11 @@ fn good_sizes(rt: HostRuntime) -> Result<(), Fail> {
     Ok(())
 }
 
-/// Words that are no option.
-static NO_OPTIONS: [&str; 30] = [
-    // Past the limits: by one, by much, 2^32 + 64, 2^64 + 64.
-    "block=63",
-    "block=0",
-    "block=1",
-    "block=16777217",
-    "block=4294967360",
-    "block=18446744073709551680",
-    // Leading zeros.
-    "block=064",
-    "block=0064",
-    "block=00",
-    // No number, a sign, other digits.
-    "block=",
-    "block=+64",
-    "block=-64",
-    "block=0x40",
-    "block=6 4",
-    "block= 64",
-    "block=64 ",
-    "block=64.",
-    "block=64\n",
-    "block=six",
-    "block==64",
-    // Other names.
-    "Block=64",
-    "BLOCK=64",
-    "block64",
-    "block",
-    "blocks=64",
-    " block=64",
-    "lock=64",
-    "=64",
-    "64",
-    "",
-];
-
-#[test]
-fn words_that_are_no_option(rt: HostRuntime) -> Result<(), Fail> {
-    for word in NO_OPTIONS {
-        let words = ["write", "block", NAME, word];
-        assert_no_command(rt.alloc(), &words, LINE)?;
-    }
-    Ok(())
-}
-
 /// Words that name OUT as an option is spelled.
 static NAMED: [&[&str]; 2] = [
     &["write", "block", "block=64"],
     &["write", "block", "block=64", "block=64"],
 ];
-
-/// Words with a good option that are no command.
-static NO_COMMANDS: [&[&str]; 7] = [
-    // Twice, the same and another.
-    &["write", "block", NAME, "block=64", "block=64"],
-    &["write", "block", NAME, "block=64", "block=4096"],
-    &["write", "block", NAME, "block=64", ""],
-    // In another place.
-    &["write", "block=64", "block", NAME],
-    &["write", "block", "", "block=64"],
-    // For another command.
-    &["calls", NAME, "block=64"],
-    &["write", "plain", NAME, "block=64"],
-];
-
-#[test]
-fn options_at_other_places(rt: HostRuntime) -> Result<(), Fail> {
-    for words in NO_COMMANDS {
-        assert_no_command(rt.alloc(), words, LINE)?;
-    }
-    Ok(())
-}
 
 // The third word is the name of OUT, whatever it spells.
 #[test]

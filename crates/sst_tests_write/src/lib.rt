@@ -9,23 +9,35 @@
 //! Expected bytes come from the worked layout of the format, and from an independent program that writes the same
 //! files, never from the output of this program.
 //!
-//! - [`one_block`]: one line written as one block.
-//! - [`written_file`]: what stands behind the index of each file that is written.
-//! - [`lists`]: any list within the limits written as one block, and each refusal by its name.
-//! - [`block_option`]: the option for the size of data blocks, and words that are none.
+//! - [`files`]: lists written as one block, byte for byte.
+//! - [`written_file`]: what stands after the index of each file that is written.
 //! - [`many_blocks`]: lists written as many data blocks, and answered from.
+//! - [`block_option`]: the option for the size of data blocks.
+//! - [`refused`]: lines that are refused, each for its reason.
+//! - [`limits`]: lines, keys, values and lists at their limits.
+//! - [`weight`]: the weight of a list, on the writer alone.
+//! - [`outside`]: calls outside that fail.
+//! - [`words`]: words that are no command.
 //! - [`statuses`]: the number of each status.
 #![tactic(auto)]
 
 #[cfg(test)]
 mod block_option;
 #[cfg(test)]
-mod lists;
+mod files;
+#[cfg(test)]
+mod limits;
 #[cfg(test)]
 mod many_blocks;
 #[cfg(test)]
-mod one_block;
+mod outside;
+#[cfg(test)]
+mod refused;
 #[cfg(test)]
 mod statuses;
+#[cfg(test)]
+mod weight;
+#[cfg(test)]
+mod words;
 #[cfg(test)]
 mod written_file;

@@ -6,13 +6,12 @@
 //!
 //! RocksDB: `FlushBlockBySizePolicy` in table/block_based/flush_block_policy.cc, `BlockBasedTableBuilder::Add` and
 //! `Flush` in table/block_based/block_based_table_builder.cc.
-use crate::lists::numbered_lines;
+use crate::files::numbered_lines;
 use crate::written_file::{Behind, put_behind};
 use sst_cli::Status;
 use sst_tests_shared::asserting::assert_answered;
 use sst_tests_shared::worked_run::{
-    NAME, Object, answered_with, failing_at, file_in_blocks, holds, other_is_as_it_was, printed,
-    put_hex, written_with,
+    NAME, file_in_blocks, holds, other_is_as_it_was, printed, put_hex, written_with,
 };
 use std::alloc::Global;
 use std::process::Abort;
@@ -141,33 +140,6 @@ fn calls_on_versions(rt: HostRuntime) -> Result<(), Fail> {
         let file = file_in_blocks(rt.alloc(), option, lines.as_str())?;
         assert_answered(rt.alloc(), &file, calls.as_str(), text.as_str())?;
     }
-    Ok(())
-}
-
-// The folder tells the length, and gives the footer, the metaindex, the properties, the index and three data blocks.
-#[test]
-fn each_failing_call(rt: HostRuntime) -> Result<(), Fail> {
-    let lines = version_lines(rt.alloc())?;
-    let file = file_in_blocks(rt.alloc(), "block=64", lines.as_str())?;
-    for number in 1..=8 {
-        let ran = answered_with(
-            rt.alloc(),
-            &file,
-            b"get 6b 1\n",
-            failing_at(Object::Folder, &[number]),
-        )?;
-        assert_eq!(rt; ran.status, Status::Device, "{number}");
-        assert!(rt; printed(&ran, ""), "{number}");
-        assert!(rt; holds(&ran, NAME, &file), "{number}");
-    }
-    let ran = answered_with(
-        rt.alloc(),
-        &file,
-        b"get 6b 1\n",
-        failing_at(Object::Folder, &[9]),
-    )?;
-    assert_eq!(rt; ran.status, Status::Done);
-    assert!(rt; printed(&ran, "none\n"));
     Ok(())
 }
 

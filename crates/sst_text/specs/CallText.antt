@@ -16,7 +16,7 @@ use Rattle.sst_text.specs.EntryText.{hex_text}
 -- ---- a call line, read
 
 -- the target of two fields: a user key of at most 65,536 bytes, and the sequence number of a snapshot
--- Pinned by: user_keys_at_the_limit, lines_of_calls, a_call_line_is_that_of_its_call
+-- Pinned by: long_targets, lists, a_call_line_is_that_of_its_call
 abbrev pub target_of_user : ℕ → List ℕ → Option Target
 target_of_user seq user = if nat_le (length user) 65536 then Some (record { user = user; seq = seq }) else None
 
@@ -24,12 +24,12 @@ abbrev pub target_of_fields : List ℕ → List ℕ → Option Target
 target_of_fields user seq = seq_field seq >>= λ n. bytes_field user >>= target_of_user n
 
 -- the target of a text: its two fields with one blank between them
--- Pinned by: malformed_lines, a_call_line_is_that_of_its_call
+-- Pinned by: lines_that_are_no_call_lines, a_call_line_is_that_of_its_call
 abbrev pub target_of : List ℕ → Option Target
 target_of text = cut 32 text >>= λ fields. target_of_fields fields.0 fields.1
 
 -- the call of a name alone: `first`, `last`, `next`, `prev`
--- Pinned by: seventeen_entries, a_call_line_is_that_of_its_call
+-- Pinned by: files_without_properties, a_call_line_is_that_of_its_call
 abbrev pub plain_call : List ℕ → Option Call
 plain_call name =
     if bytes_eq name (codes "first") then Some First
@@ -39,7 +39,7 @@ plain_call name =
     else None
 
 -- the call of a name and a target: `get`, `seek`, `seek_for_prev`
--- Pinned by: seventeen_entries, a_call_line_is_that_of_its_call
+-- Pinned by: files_without_properties, a_call_line_is_that_of_its_call
 abbrev pub call_to : List ℕ → Target → Option Call
 call_to name target =
     if bytes_eq name (codes "get") then Some (Get target)
@@ -48,7 +48,7 @@ call_to name target =
     else None
 
 -- the call of a line that was cut at its first blank, if it has one
--- Pinned by: malformed_lines, a_call_line_is_that_of_its_call
+-- Pinned by: lines_that_are_no_call_lines, a_call_line_is_that_of_its_call
 abbrev pub call_of_parts : List ℕ → Option (List ℕ × List ℕ) → Option Call
 call_of_parts line None = plain_call line
 call_of_parts line (Some parts) = target_of parts.1 >>= call_to parts.0

@@ -1,5 +1,5 @@
 -- The one line that is written for an entry, and the text of a list. These texts are this project's own.
--- Pinned by: lines_of_replies, an_entry_line_is_that_of_its_entry
+-- Pinned by: lists, an_entry_line_is_that_of_its_entry
 use Rattle.std.specs.Prelude.{ℕ, List, [], ◌∷◌, ◌++◌, All}
 use Rattle.std.specs.List.{flat_map}
 use Rattle.std.specs.Fmt.{decimal}

@@ -1,5 +1,5 @@
 -- The one line that is printed for what a call answers. These texts are this project's own.
--- Pinned by: lines_of_replies
+-- Pinned by: lists
 use Rattle.std.specs.Prelude.{ℕ, List, [], ◌++◌, codes, Option, Some, None}
 use Rattle.sst_key.specs.declared.entries.Entry.{Entry}
 use Rattle.sst_key.specs.declared.calls.Call.{Call}

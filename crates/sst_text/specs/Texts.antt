@@ -11,7 +11,7 @@ use Rattle.sst_key.specs.declared.entries.Kind.TheVariants.{Deletion, Value, Mer
 use Rattle.sst_key.specs.declared.entries.Entry.{Entry}
 
 -- the ? of the logic: the second step, if the first gave a value
--- Pinned by: lines_that_are_no_entry_lines
+-- Pinned by: refused_lines
 infixl 10 ◌>>=◌
 abbrev pub ◌>>=◌ : {A B : Type 0} → Option A → (A → Option B) → Option B
 o >>= f = option_and_then f o
@@ -33,7 +33,7 @@ digits_from value [] = Some value
 digits_from value (c ∷ rest) = if is_ascii_digit c then digits_from (value * 10 + (c - 48)) rest else None
 
 -- a number below the end of sequence numbers
--- Pinned by: lines_that_are_no_entry_lines, the_file_of_a_line
+-- Pinned by: refused_lines, worked_files
 abbrev pub in_range : ℕ → Option ℕ
 in_range seq = if nat_lt seq (2 ^ 56) then Some seq else None
 
@@ -61,7 +61,7 @@ kind_field (c ∷ []) = kind_of_letter c
 kind_field (c ∷ d ∷ rest) = None
 
 -- the four fields of a line, the sequence number and the kind read
--- Pinned by: the_file_of_a_line, an_entry_line_is_that_of_its_entry
+-- Pinned by: worked_files, an_entry_line_is_that_of_its_entry
 pub record Fields : Type 0 where
   pub user : List ℕ
   pub seq : ℕ
@@ -78,7 +78,7 @@ fields_of line = do
   Some (record { user = a.0; seq = seq; kind = kind; value = c.1 })
 
 -- the entry of four fields
--- Pinned by: the_file_of_a_line, an_entry_line_is_that_of_its_entry
+-- Pinned by: worked_files, an_entry_line_is_that_of_its_entry
 unfoldable pub entry_of_fields : Fields → Option Entry
 entry_of_fields fields = do
   user ← bytes_field fields.user

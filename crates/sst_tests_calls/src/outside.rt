@@ -1,9 +1,7 @@
-//! Calls that aren't answered: words that are no command, inputs that are refused, a file that isn't there, and calls
-//! outside that fail.
+//! Calls that aren't answered: inputs that are refused, a file that isn't there, and calls outside that fail.
 //!
 //! The texts are worked by hand. They are this project's own.
 use sst_cli::Status;
-use sst_tests_shared::asserting::assert_no_command;
 use sst_tests_shared::small_file::bare_file;
 use sst_tests_shared::worked_run::{
     CALLS, NAME, NONE_FAILS, Object, Ran, answered, answered_with, answered_with_stuck_sink,
@@ -15,27 +13,6 @@ use std::test::Fail;
 
 /// A good input.
 const LINE: &str = "get 61 1\n";
-
-/// Words that are no command.
-static NO_COMMANDS: [&[&str]; 9] = [
-    &["calls"],
-    &["calls", ""],
-    &["calls", NAME, "x"],
-    &["calls", NAME, NAME],
-    &["calls", "block", NAME],
-    &["Calls", NAME],
-    &["calls ", NAME],
-    &["get", NAME],
-    &[NAME, "calls"],
-];
-
-#[test]
-fn words_that_are_no_command(rt: HostRuntime) -> Result<(), Fail> {
-    for words in NO_COMMANDS {
-        assert_no_command(rt.alloc(), words, LINE)?;
-    }
-    Ok(())
-}
 
 /// Lines that are no call lines.
 static NO_CALL_LINES: [&str; 40] = [
@@ -105,23 +82,20 @@ fn assert_refused_input(
     Ok(())
 }
 
+/// Inputs with a later line that is none, and what is told.
+static LATER: [(&str, &str); 4] = [
+    ("get 61 1\nget 61 01\n", "input 2 line\n"),
+    ("first\nnext\n\nput\n", "input 3 line\n"),
+    ("first\nnext\nlast\nprev", "input 4 line\n"),
+    ("first\n\n", "input 2 line\n"),
+];
+
 #[test]
 fn lines_that_are_no_call_lines(rt: HostRuntime) -> Result<(), Fail> {
     for line in NO_CALL_LINES {
         assert_refused_input(&rt, rt.alloc(), line.as_bytes(), "input 1 line\n")?;
-        let later = format!(in rt.alloc(); "get 61 1\n{line}")?;
-        assert_refused_input(&rt, rt.alloc(), later.as_bytes(), "input 2 line\n")?;
     }
-    Ok(())
-}
-
-#[test]
-fn the_first_of_the_lines_that_are_none(rt: HostRuntime) -> Result<(), Fail> {
-    for (input, text) in [
-        ("first\nnext\n\nput\n", "input 3 line\n"),
-        ("first\nnext\nlast\nprev", "input 4 line\n"),
-        ("first\n\n", "input 2 line\n"),
-    ] {
+    for (input, text) in LATER {
         assert_refused_input(&rt, rt.alloc(), input.as_bytes(), text)?;
     }
     Ok(())
@@ -168,6 +142,33 @@ fn long_targets(rt: HostRuntime) -> Result<(), Fail> {
     assert!(rt; printed(&ran, "none\n"));
     let longer = long_target(rt.alloc(), 131_074)?;
     assert_refused_input(&rt, rt.alloc(), &longer, "input 1 line\n")
+}
+
+/// As many lines `next` as an input may have, and what follows them.
+fn most_calls_and(alloc: Global, rest: &str) -> Result<Vec<u8>, Fail> {
+    let mut text = Vec::new(alloc);
+    for _ in 0..1_048_576u32 {
+        text.extend_from_slice(b"next\n")?;
+    }
+    text.extend_from_slice(rest.as_bytes())?;
+    Ok(text)
+}
+
+// A line after them that is no call line is told as that, and not as one too many.
+#[test]
+fn as_many_calls_as_there_may_be(rt: HostRuntime) -> Result<(), Fail> {
+    let file = bare_file(rt.alloc())?;
+    let ran = answered(rt.alloc(), &file, &most_calls_and(rt.alloc(), "")?)?;
+    assert_eq!(rt; ran.status, Status::Done);
+    for (rest, text) in [
+        ("next\n", "input 1048577 many\n"),
+        ("next", "input 1048577 line\n"),
+        ("put\n", "input 1048577 line\n"),
+    ] {
+        let input = most_calls_and(rt.alloc(), rest)?;
+        assert_refused_input(&rt, rt.alloc(), &input, text)?;
+    }
+    Ok(())
 }
 
 #[test]
@@ -277,19 +278,5 @@ fn an_output_that_fails(rt: HostRuntime) -> Result<(), Fail> {
         assert_eq!(rt; ran.status, Status::Device, "on {input} and {cut}");
         assert!(rt; printed(&ran, ""), "on {input} and {cut}");
     }
-    Ok(())
-}
-
-// The input is refused before the folder is asked.
-#[test]
-fn a_refused_input_over_a_folder_that_fails(rt: HostRuntime) -> Result<(), Fail> {
-    let file = bare_file(rt.alloc())?;
-    let ran = answered_with(
-        rt.alloc(),
-        &file,
-        b"first\nput\n",
-        failing_at(Object::Folder, &[1]),
-    )?;
-    assert!(rt; refused(&ran, "input 2 line\n"));
     Ok(())
 }

@@ -172,30 +172,8 @@ fn assert_in_blocks(alloc: Global, lines: &str, calls: &str, text: &str) -> Resu
     Ok(())
 }
 
-#[test]
-fn every_target(rt: HostRuntime) -> Result<(), Fail> {
-    let listed = mixed_list(rt.alloc())?;
-    assert_eq!(rt; listed.entries.len(), 41);
-    let lines = joined(rt.alloc(), &listed.lines)?;
-    let mut calls = String::new(rt.alloc());
-    let mut text = String::new(rt.alloc());
-    let mut position = None;
-    for (digits, user) in USERS {
-        for seq in SNAPSHOTS {
-            put_calls(rt.alloc(), &mut calls, digits, seq)?;
-            let at_target = calls_at(rt.alloc(), user, seq)?;
-            position = put_answers(&mut text, &listed, &at_target, position)?;
-        }
-    }
-    assert_in_blocks(rt.alloc(), lines.as_str(), calls.as_str(), text.as_str())
-}
-
-#[test]
-fn every_step(rt: HostRuntime) -> Result<(), Fail> {
-    let listed = mixed_list(rt.alloc())?;
-    let lines = joined(rt.alloc(), &listed.lines)?;
-    let mut calls = String::new(rt.alloc());
-    let mut steps = Vec::new(rt.alloc());
+/// Appends the steps over the whole list, there and back, and their lines.
+fn put_steps(calls: &mut String, steps: &mut Vec<Call>) -> Result<(), Fail> {
     calls.push_str("first\n")?;
     steps.push(Call::First)?;
     for _ in 0..42 {
@@ -208,7 +186,25 @@ fn every_step(rt: HostRuntime) -> Result<(), Fail> {
         calls.push_str("prev\n")?;
         steps.push(Call::Prev)?;
     }
+    Ok(())
+}
+
+#[test]
+fn every_target_and_every_step(rt: HostRuntime) -> Result<(), Fail> {
+    let listed = mixed_list(rt.alloc())?;
+    assert_eq!(rt; listed.entries.len(), 41);
+    let lines = joined(rt.alloc(), &listed.lines)?;
+    let mut calls = String::new(rt.alloc());
     let mut text = String::new(rt.alloc());
-    put_answers(&mut text, &listed, &steps, None)?;
+    let mut steps = Vec::new(rt.alloc());
+    put_steps(&mut calls, &mut steps)?;
+    let mut position = put_answers(&mut text, &listed, &steps, None)?;
+    for (digits, user) in USERS {
+        for seq in SNAPSHOTS {
+            put_calls(rt.alloc(), &mut calls, digits, seq)?;
+            let at_target = calls_at(rt.alloc(), user, seq)?;
+            position = put_answers(&mut text, &listed, &at_target, position)?;
+        }
+    }
     assert_in_blocks(rt.alloc(), lines.as_str(), calls.as_str(), text.as_str())
 }
