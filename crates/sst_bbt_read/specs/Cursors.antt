@@ -1,5 +1,5 @@
 -- What the calls of a reader's cursor come to, by the list machine.
--- Pinned by: run.answered
+-- Pinned by: what_calls_come_to.answered
 use Rattle.std.specs.Prelude.{◌≡◌, ℕ, ◌<◌, List, length, Option, None, Some, option_and_then, slice_get}
 use Rattle.std.specs.Option.{option_map}
 use Rattle.sst_key.specs.declared.entries.Entry.{Entry}
@@ -20,7 +20,7 @@ abbrev pub Comes : Reply → Option ℕ → Answer → Type 0
 Comes reply place answer = (reply ≡ answer.reply) × (place ≡ answer.position)
 
 -- the entry that an answer shows
--- Pinned by: seventeen_entries
+-- Pinned by: lists
 abbrev pub entry_shown : List Entry → Answer → Option Entry
 entry_shown entries answer = option_and_then (λ i. slice_get entries i) answer.shown
 

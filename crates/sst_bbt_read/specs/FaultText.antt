@@ -1,7 +1,7 @@
 -- What is printed where a file is damaged: one line, which says what is wrong first. These texts are this project's own.
 -- O and S stand for the offset and the size of a block, A for a place in it, V and T for numbers. All
 -- are decimal.
--- Pinned by: footers, stored_blocks
+-- Pinned by: texts_of_damages, stored_blocks
 use Rattle.std.specs.Prelude.{ℕ, List, ◌++◌, codes}
 use Rattle.std.specs.Fmt.{decimal}
 use Rattle.sst_num.specs.declared.block_handle.Handle.{Handle}
@@ -37,7 +37,7 @@ frame_fault_text (Compressed h type) = with_handle (codes "compressed") h ++ (co
 
 -- what is wrong within the block at an offset: `row O A`, `restart O A`, `block-footer O`, `disorder O A`, `kind O A`,
 -- `hash O A`, `handle O A`
--- Pinned by: index_blocks, second_rows
+-- Pinned by: texts_of_damages
 abbrev pub block_fault_text : ℕ → BlockFault → List ℕ
 block_fault_text offset (BadRow at) = with_two (codes "row") offset at
 block_fault_text offset (BadRestart at) = with_two (codes "restart") offset at
@@ -50,7 +50,7 @@ block_fault_text offset (BadHandle at) = with_two (codes "handle") offset at
 -- what is wrong with what a file says of itself: `not-table`, `version V`, `checksum-type T`, `comparator`, `index-type T`,
 -- `range-tombstones`, `property NAME`, `missing-property NAME`, `footer`, `file-long`, `not-yet`, or what is wrong with its
 -- metaindex or properties block
--- Pinned by: footers, orders_and_types, marks, a_file_of_two_to_the_forty_bytes
+-- Pinned by: texts_of_damages, a_file_of_two_to_the_forty_bytes
 abbrev pub meta_fault_text : MetaFault → List ℕ
 meta_fault_text meta.NotTable = codes "not-table"
 meta_fault_text (meta.Version version) = with_number (codes "version") version
@@ -67,7 +67,7 @@ meta_fault_text (meta.Block h fault) = block_fault_text h.offset fault
 meta_fault_text meta.NotYet = codes "not-yet"
 
 -- what is wrong with a file: that of what it says of itself, that of a block, or `empty-block O S`
--- Pinned by: short_blocks
+-- Pinned by: texts_of_damages
 abbrev pub bbt_fault_text : BbtFault → List ℕ
 bbt_fault_text (bbt.Meta fault) = meta_fault_text fault
 bbt_fault_text (bbt.Frame fault) = frame_fault_text fault
@@ -75,6 +75,6 @@ bbt_fault_text (bbt.Block h fault) = block_fault_text h.offset fault
 bbt_fault_text (bbt.EmptyBlock h) = with_handle (codes "empty-block") h
 
 -- the line that is printed for a damaged file
--- Pinned by: footers
+-- Pinned by: texts_of_damages
 abbrev pub fault_text : BbtFault → List ℕ
 fault_text fault = codes "damage " ++ (bbt_fault_text fault ++ codes "\n")

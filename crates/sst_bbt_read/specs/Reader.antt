@@ -11,7 +11,7 @@ use Rattle.sst_bbt_read.specs.Opening.{RowBlock}
 use Rattle.sst_bbt_read.specs.declared.bbt_fault.BbtFault.{BbtFault}
 
 -- an answer has the blocks that were read, or is the first fault
--- Pinned by: run.answered, run.damaged
+-- Pinned by: what_calls_come_to.answered, what_calls_come_to.damaged
 abbrev pub Opened : Result OpenTable (Stop BbtFault) → Result (List RowBlock) BbtFault → Type 0
 Opened (Ok table) read = read ≡ Ok (row_blocks_of (blocks_of table))
 Opened (Err (Damage fault)) read = read ≡ Err fault

@@ -13,7 +13,7 @@ abbrev pub HasSeq : Entry → Type 0
 HasSeq e = e.seq < 2 ^ 56
 
 -- the row of an entry: its internal key, and its value
--- Pinned by: the_file_of_a_line
+-- Pinned by: worked_files
 abbrev pub row_of : Entry → Row
 row_of e = record { key = key_of e; value = e.value }
 

@@ -2,7 +2,7 @@
 -- which a target leads. Where the separators separate the blocks, these are the answers of the list.
 -- RocksDB: BlockBasedTableIterator (SeekImpl, SeekForPrev) in table/block_based/block_based_table_iterator.cc, and
 -- BlockBasedTable::Get in table/block_based/block_based_table_reader.cc.
--- Pinned by: the_way_is_the_lists, entries_behind_separators
+-- Pinned by: the_way_is_the_lists, entries_after_separators
 use Rattle.std.specs.Prelude.{◌≡◌, ◌≢◌, ℕ, ◌+◌, ◌*◌, Bool, if◌then◌else◌, List, [], ◌∷◌, ◌++◌, length, count_by, slice_get, All, Option, None, Some, option_and_then}
 use Rattle.std.specs.Option.{option_map}
 use Rattle.std.specs.Ordering.{nat_cmp, ordering_then, is_lt}
@@ -78,7 +78,7 @@ way_get blocks user seq =
 -- the last of so many entries; where every separator is before, the last of all
 -- RocksDB: SeekForPrev, FindKeyBackward; that it is the last of all where every separator is before the target is
 -- own: RocksDB looks in the last block, which differs where separators don't separate
--- Pinned by: the_way_is_the_lists, entries_behind_the_separator
+-- Pinned by: the_way_is_the_lists, entries_after_separators
 abbrev pub last_passed : List Entry → Option ℕ → Option ℕ
 last_passed entries None = last_of entries
 last_passed entries (Some n) = place_before n
@@ -86,12 +86,12 @@ last_passed entries (Some n) = place_before n
 -- where SeekForPrev lands: at the last entry that it passed, be it in the block before
 -- RocksDB: SeekForPrev, FindKeyBackward; that it is the last of all where every separator is before the target is
 -- own: RocksDB looks in the last block, which differs where separators don't separate
--- Pinned by: the_way_is_the_lists, entries_behind_the_separator
+-- Pinned by: the_way_is_the_lists, entries_after_separators
 abbrev pub way_seek_for_prev : List IndexedBlock → List ℕ → ℕ → Option ℕ
 way_seek_for_prev blocks user seq = last_passed (joined blocks) (seek_for_prev_passed blocks user seq)
 
 -- what a call answers at a position (None is nowhere)
--- Pinned by: the_way_is_the_lists, one_block_twice
+-- Pinned by: the_way_is_the_lists, files_of_one_list
 abbrev pub way_answer : List IndexedBlock → Option ℕ → Call → Answer
 way_answer blocks position (Get target) = shows position (way_get blocks target.user target.seq)
 way_answer blocks position First = lands (first_of (joined blocks))
@@ -102,14 +102,14 @@ way_answer blocks position Next = steps_on (joined blocks) position
 way_answer blocks position Prev = steps_back position
 
 -- what a sequence of calls answers, from a position on
--- Pinned by: the_way_is_the_lists, one_block_twice
+-- Pinned by: the_way_is_the_lists, files_of_one_list
 abbrev pub way_replies_from : List IndexedBlock → Option ℕ → List Call → List Answer
 way_replies_from blocks position [] = []
 way_replies_from blocks position (call ∷ calls) =
     way_answer blocks position call ∷ way_replies_from blocks (way_answer blocks position call).position calls
 
 -- what a sequence of calls answers, from nowhere on
--- Pinned by: the_way_is_the_lists, one_block_twice
+-- Pinned by: the_way_is_the_lists, files_of_one_list
 abbrev pub way_replies : List IndexedBlock → List Call → List Answer
 way_replies blocks calls = way_replies_from blocks None calls
 

@@ -11,7 +11,7 @@ use Rattle.sst_bbt_spec.specs.Rows.{rows_of}
 
 -- a data block: a restart at each 16th entry
 -- Own choice.
--- Pinned by: a_second_restart
+-- Pinned by: second_and_third_restarts
 abbrev pub data_block : List Entry → List ℕ
 data_block entries = block_of 16 (rows_of entries)
 
@@ -46,13 +46,13 @@ cut_of limit entries = cut_from limit (record { ended = []; current = [] }) entr
 
 -- the current block is ended with the list, if it has an entry
 -- RocksDB: Finish
--- Pinned by: a_list_is_cut_where_blocks_are_full, the_empty_list
+-- Pinned by: a_list_is_cut_where_blocks_are_full, worked_files
 abbrev pub ended_all : Blocks → List (List Entry)
 ended_all blocks = blocks.ended ++ (if nat_lt 0 (length blocks.current) then blocks.current ∷ [] else [])
 
 -- the data blocks of a list
 -- RocksDB: Finish
--- Pinned by: a_list_is_cut_where_blocks_are_full, the_empty_list
+-- Pinned by: a_list_is_cut_where_blocks_are_full, worked_files
 unfoldable pub blocks_for : ℕ → List Entry → List (List Entry)
 blocks_for limit entries = ended_all (cut_of limit entries)
 

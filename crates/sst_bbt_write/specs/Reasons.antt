@@ -10,14 +10,14 @@ use Rattle.sst_block.specs.Builder as builder
 use Rattle.sst_bbt_spec.specs.Rows.{rows_of}
 
 -- the entry is after those of the list
--- Pinned by: lines_out_of_order, lists_that_fit
+-- Pinned by: refused_lines, lists_that_fit
 abbrev pub is_after : List Entry → Entry → Bool
 is_after [] e = true
 is_after (first ∷ rest) e = is_lt (internal_cmp (builder.last_key [] (rows_of (first ∷ rest))) (key_of e))
 
 -- the first reason to refuse the entry after the list: order, key, value, weight; none where it may stand there
--- Pinned by: a_list_reads_back, a_long_key_out_of_order, later_keys_and_values_past_their_limits,
--- a_list_as_heavy_as_it_may_be, what_a_text_says_fits
+-- Pinned by: a_list_reads_back, refused_lines, keys_and_values_past_their_limits, a_list_as_heavy_as_it_may_be,
+-- what_a_text_says_fits
 abbrev pub reason : List Entry → Entry → Option WriteFault
 reason entries e =
     if not (is_after entries e) then Some NotIncreasing

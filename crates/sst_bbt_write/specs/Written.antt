@@ -62,7 +62,7 @@ index_rows at (block ∷ rest) = index_row at block ∷ index_rows (at + stored_
 
 -- the index block: a restart at each row
 -- Own choice.
--- Pinned by: forty_entries, the_empty_list
+-- Pinned by: forty_entries, worked_files
 abbrev pub index_block : List (List Entry) → List ℕ
 index_block blocks = block_of 1 (index_rows 0 blocks)
 
@@ -77,13 +77,13 @@ value_bytes entries = sum_by (λ e. length e.value) entries
 
 -- a property
 -- RocksDB: table/meta_blocks.cc, AddTableProperty; which they are is own
--- Pinned by: the_file_of_a_line
+-- Pinned by: worked_files
 abbrev pub property : List ℕ → List ℕ → Row
 property name value = record { key = name; value = value }
 
 -- the properties, in bytewise order of their names
 -- RocksDB: table/meta_blocks.cc, AddTableProperty; which they are is own
--- Pinned by: the_file_of_a_line
+-- Pinned by: worked_files
 abbrev pub properties : Sizes → List Row
 properties sizes =
     property (names.name_bytes name.IndexType) (fixed 4 0)
@@ -114,23 +114,23 @@ sizes_of blocks entries =
     }
 
 -- where the index block stands: after the stored data blocks
--- Pinned by: written_file_stands_for_its_list, the_file_of_a_line
+-- Pinned by: written_file_stands_for_its_list, worked_files
 abbrev pub index_place : List ℕ → Sizes → Handle
 index_place index sizes = record { offset = sizes.data_size; size = length index }
 
 -- what stands after the stored data blocks, by the bytes of the index block: this, and then the end of a file of version
 -- 2 with these properties, which is properties block, metaindex block and footer
--- Pinned by: written_file_stands_for_its_list, the_file_of_a_line, the_empty_list
+-- Pinned by: written_file_stands_for_its_list, worked_files
 abbrev pub end_of : List ℕ → Sizes → List ℕ
 end_of index sizes = frame_of index ++ ending_of (sizes.data_size + sizes.index_size) 2 (index_place index sizes) (properties sizes)
 
 -- the same of blocks
--- Pinned by: written_file_stands_for_its_list, the_file_of_a_line, the_empty_list
+-- Pinned by: written_file_stands_for_its_list, worked_files
 abbrev pub end_part : List (List Entry) → Sizes → List ℕ
 end_part blocks sizes = end_of (index_block blocks) sizes
 
 -- the bytes of the file of a list that was cut into these blocks
--- Pinned by: written_file_stands_for_its_list, the_file_of_a_line, the_empty_list
+-- Pinned by: written_file_stands_for_its_list, worked_files
 abbrev pub file_of_blocks : List (List Entry) → List Entry → List ℕ
 file_of_blocks blocks entries = data_part blocks ++ end_part blocks (sizes_of blocks entries)
 

@@ -12,7 +12,7 @@ use Rattle.sst_text.specs.CallText.{call_of_line}
 use Rattle.sst_bbt_write.specs.Reasons.{reason}
 
 -- one of two answers, by a result
--- Pinned by: a_list_reads_back, lines_out_of_order
+-- Pinned by: a_list_reads_back, refused_lines
 abbrev pub result_match : {A B C : Type 0} → Result A B → (A → C) → (B → C) → C
 result_match (Ok x) f g = f x
 result_match (Err y) f g = g y
@@ -30,12 +30,12 @@ pieces_of [] = [] ∷ []
 pieces_of (b ∷ text) = if b == 10 then [] ∷ pieces_of text else onto_first b (pieces_of text)
 
 -- the refusal of a line, whose number counts from 1
--- Pinned by: the_first_of_the_lines_that_are_none
+-- Pinned by: refused_lines
 abbrev pub refused_at : ℕ → Reason → Refusal
 refused_at number why = record { line = number; reason = why }
 
 -- what follows the last line end says: nothing, or a line without its end
--- Pinned by: long_lines, lines_that_are_no_entry_lines
+-- Pinned by: long_lines, refused_lines
 abbrev pub read_last : {A : Type 0} → ℕ → List A → List ℕ → Result (List A) Refusal
 read_last number items [] = Ok items
 read_last number items (b ∷ rest) =
@@ -43,7 +43,7 @@ read_last number items (b ∷ rest) =
 
 -- what the pieces of a text say, where `read` tells what a line says after the items before it: those items and
 -- those of the lines, or the first refusal
--- Pinned by: a_list_reads_back, the_first_of_the_lines_that_are_none
+-- Pinned by: a_list_reads_back, refused_lines
 abbrev pub read_pieces : {A : Type 0} → (List A → List ℕ → Result A Reason) → ℕ → List A → List (List ℕ) → Result (List A) Refusal
 read_pieces read number items [] = Ok items
 read_pieces read number items (last ∷ []) = read_last number items last
@@ -51,12 +51,12 @@ read_pieces read number items (line ∷ next ∷ rest) =
     result_match (read items line) (λ x. read_pieces read (number + 1) (items ++ x ∷ []) (next ∷ rest)) (λ why. Err (refused_at number why))
 
 -- what a text says after these items, whose first line has this number
--- Pinned by: a_list_reads_back, the_first_of_the_lines_that_are_none
+-- Pinned by: a_list_reads_back, refused_lines
 unfoldable pub read_from : {A : Type 0} → (List A → List ℕ → Result A Reason) → ℕ → List A → List ℕ → Result (List A) Refusal
 read_from read number items text = read_pieces read number items (pieces_of text)
 
 -- the entry of a line, if there is no reason to refuse it after these entries
--- Pinned by: lines_out_of_order, later_lines_that_are_no_entry_lines
+-- Pinned by: refused_lines
 abbrev pub by_reason : Entry → Option WriteFault → Result Entry Reason
 by_reason e None = Ok e
 by_reason e (Some fault) = Err (Refused fault)
@@ -66,12 +66,12 @@ by_entry entries None = Err Line
 by_entry entries (Some e) = by_reason e (reason entries e)
 
 -- what an entry line says after these entries: its entry, or the first reason to refuse it
--- Pinned by: later_long_lines
+-- Pinned by: long_lines
 unfoldable pub read_line : List Entry → List ℕ → Result Entry Reason
 read_line entries line = if nat_lt 40000000 (length line) then Err LineLong else by_entry entries (entry_of_line line)
 
 -- what the whole input of a `write` says
--- Pinned by: a_list_reads_back, lines_out_of_order
+-- Pinned by: a_list_reads_back, refused_lines
 abbrev pub read_input : List ℕ → Result (List Entry) Refusal
 read_input text = read_from read_line 1 [] text
 

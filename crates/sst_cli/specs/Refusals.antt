@@ -8,7 +8,7 @@ use Rattle.sst_cli.specs.declared.input.refusal.Reason.TheVariants.{LineLong, Li
 use Rattle.sst_cli.specs.declared.input.refusal.Refusal.{Refusal}
 
 -- the name of a reason that a writer gives
--- Pinned by: lines_out_of_order, later_keys_and_values_past_their_limits, a_list_too_heavy
+-- Pinned by: refused_lines, keys_and_values_past_their_limits, a_list_too_heavy
 abbrev pub fault_text : WriteFault → List ℕ
 fault_text NotIncreasing = codes "not-increasing"
 fault_text KeyLong = codes "key-long"
@@ -19,7 +19,7 @@ fault_text KeySize = codes "key-size"
 fault_text ShortKey = codes "short-key"
 
 -- the name of a reason: `line-long`, `line`, `many`, or that of the writer
--- Pinned by: long_lines, lines_that_are_no_entry_lines
+-- Pinned by: long_lines, refused_lines
 abbrev pub reason_text : Reason → List ℕ
 reason_text LineLong = codes "line-long"
 reason_text Line = codes "line"
@@ -27,7 +27,7 @@ reason_text (Refused fault) = fault_text fault
 reason_text Many = codes "many"
 
 -- the line that is printed for a refusal
--- Pinned by: later_lines_that_are_no_entry_lines
+-- Pinned by: refused_lines
 abbrev pub refusal_text : Refusal → List ℕ
 refusal_text refusal =
     codes "input " ++ (decimal refusal.line ++ (codes " " ++ (reason_text refusal.reason ++ codes "\n")))

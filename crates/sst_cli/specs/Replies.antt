@@ -1,5 +1,5 @@
 -- The text of the answers to a list of calls: one line each. These texts are this project's own.
--- Pinned by: seventeen_entries
+-- Pinned by: lists
 use Rattle.std.specs.Prelude.{◌≡◌, ℕ, List, [], ◌∷◌, ◌++◌, Option, None}
 use Rattle.std.specs.Io.KnownBytes.{append_known}
 use Rattle.sst_key.specs.declared.entries.Entry.{Entry}
@@ -32,12 +32,12 @@ abbrev pub answers_text : List Entry → List Call → List ℕ
 answers_text entries calls = answers_from entries None calls
 
 -- the text of the answers by the way of the blocks, from a position on
--- Pinned by: what_calls_come_to.answered, entries_behind_separators
+-- Pinned by: what_calls_come_to.answered, entries_after_separators
 unfoldable pub way_from : List IndexedBlock → Option ℕ → List Call → List ℕ
 way_from blocks position calls = lines_of (joined blocks) calls (way_replies_from blocks position calls)
 
 -- the text of the answers of a block-based table with these blocks
--- Pinned by: what_calls_come_to.answered, entries_behind_separators
+-- Pinned by: what_calls_come_to.answered, entries_after_separators
 abbrev pub way_text : List IndexedBlock → List Call → List ℕ
 way_text blocks calls = way_from blocks None calls
 

@@ -1,6 +1,6 @@
 -- The words of a command line. These words are this project's own. For now there are two commands,
 -- `write block OUT`, with the option `block=N`, and `calls FILE`.
--- Pinned by: words_that_are_no_option, good_sizes
+-- Pinned by: words_that_are_no_command, good_sizes
 use Rattle.std.specs.Prelude.{ℕ, ◌&&◌, nat_le, if◌then◌else◌, List, [], ◌∷◌, length, take, drop, codes, Option, Some, None, option_and_then}
 use Rattle.std.specs.Option.{option_map}
 use Rattle.std.specs.Str.{bytes_eq}
@@ -16,20 +16,20 @@ abbrev pub number_within : ℕ → ℕ → ℕ → Option ℕ
 number_within least most n = if nat_le least n && nat_le n most then Some n else None
 
 -- the number of the option `block=N`, from 64 to 16,777,216, in decimal digits without sign or leading zeros
--- Pinned by: words_that_are_no_option, forty_entries
+-- Pinned by: words_that_are_no_command, forty_entries
 unfoldable pub block_number : List ℕ → Option ℕ
 block_number word =
     option_and_then (λ n. number_within 64 16777216 n) (option_and_then seq_field (behind (codes "block=") word))
 
 -- the options of some words, each at most once; what isn't said has its default
--- Pinned by: options_at_other_places, words_that_are_no_option
+-- Pinned by: words_that_are_no_command
 abbrev pub options_of : List (List ℕ) → Option BbtOptions
 options_of [] = Some (record { block_size = 4096 })
 options_of (word ∷ []) = option_map (λ n. record { block_size = n }) (block_number word)
 options_of (word ∷ next ∷ rest) = None
 
 -- a `write`: the name of the file that it makes, and the options
--- Pinned by: words_that_are_no_command, the_file_of_a_line, forty_entries
+-- Pinned by: words_that_are_no_command, worked_files, forty_entries
 pub record WriteLine : Type 0 where
   pub name : List ℕ
   pub options : BbtOptions
@@ -38,7 +38,7 @@ abbrev pub line_with : List ℕ → Option BbtOptions → Option WriteLine
 line_with name options = option_map (λ (o : BbtOptions). record { name = name; options = o }) options
 
 -- the `write` that the words are; nothing where they are none
--- Pinned by: words_that_are_no_command, the_file_of_a_line, forty_entries
+-- Pinned by: words_that_are_no_command, worked_files, forty_entries
 abbrev pub write_line : List (List ℕ) → Option WriteLine
 write_line [] = None
 write_line (command ∷ []) = None
@@ -53,7 +53,7 @@ abbrev pub out_name : List (List ℕ) → Option (List ℕ)
 out_name words = option_map (λ (line : WriteLine). line.name) (write_line words)
 
 -- the name of the file that a `calls` reads; nothing where the words are no such line
--- Pinned by: words_that_are_no_command, the_worked_example
+-- Pinned by: words_that_are_no_command, lists
 abbrev pub calls_name : List (List ℕ) → Option (List ℕ)
 calls_name [] = None
 calls_name (command ∷ []) = None

@@ -15,7 +15,7 @@ use Rattle.sst_cli.specs.declared.status.Status.{Status}
 use Rattle.sst_cli.specs.declared.status.Status.TheVariants.{Done, Input}
 
 -- the line for a file of so many entries that was written
--- Pinned by: the_file_of_a_line, forty_entries
+-- Pinned by: worked_files, forty_entries
 abbrev pub done_text : ℕ → List ℕ
 done_text count = codes "wrote " ++ (decimal count ++ codes "\n")
 

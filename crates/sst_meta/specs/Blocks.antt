@@ -29,14 +29,14 @@ abbrev pub rows_in : List Spelled → List Row
 rows_in spelled = map (λ (s : Spelled). s.row) spelled
 
 -- the rows of a block, or its first fault
--- Pinned by: metaindex_blocks, properties_blocks
+-- Pinned by: a_metaindex_that_is_a_fault, properties_that_are_faults
 abbrev pub rows_checked : {F : Type 0} → (BlockFault → F) → RowForm → List ℕ → Result (List Row) F
 rows_checked block form bytes =
     then_open (as_fault block (block_read form bytes)) (λ spelled. Ok (rows_in spelled))
 
 -- the framed block at a handle, and its rows in a form; faults are named by the functions. `end` is the file's length
 -- without its footer.
--- Pinned by: a_file_loads_as_it_says, stored_properties
+-- Pinned by: a_file_loads_as_it_says, properties_that_are_faults
 abbrev pub block_at : {F : Type 0} → (FrameFault → F) → (BlockFault → F) → RowForm → List ℕ → ℕ → Handle → Result (List Row) F
 block_at frame block form file end h =
     then_open (as_fault frame (frame_read file end h)) (rows_checked block form)

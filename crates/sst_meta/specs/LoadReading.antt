@@ -26,7 +26,7 @@ use Rattle.sst_meta.specs.declared.meta_fault.MetaFault.TheVariants as meta
 
 -- the footer by the format of the file; a plain or a cuckoo table isn't read yet
 -- RocksDB: table/format.cc, DecodeFrom
--- Pinned by: a_footer_is_read, other_tables
+-- Pinned by: a_footer_is_read, other_endings
 abbrev pub by_format : List ℕ → Option Format → Result Footer MetaFault
 by_format tail None = footer_read tail
 by_format tail (Some Format.Block) = footer_read tail
@@ -35,20 +35,20 @@ by_format tail (Some Format.Cuckoo) = Err meta.NotYet
 
 -- what the last 53 bytes of a file say, or the whole of a shorter file
 -- RocksDB: table/format.cc, DecodeFrom
--- Pinned by: a_footer_is_read, other_tables
+-- Pinned by: a_footer_is_read, other_endings
 unfoldable pub end_read : List ℕ → Result Footer MetaFault
 end_read tail = by_format tail (format_at tail)
 
 -- what was read, if it took all of so many bytes
 -- Own.
--- Pinned by: names_that_are_faults, flags_of_the_index
+-- Pinned by: names_that_are_faults, properties_that_are_faults
 abbrev pub exactly : {A : Type 0} → ℕ → Option (A × ℕ) → Option A
 exactly n None = None
 exactly n (Some read) = if read.1 == n then Some read.0 else None
 
 -- the handle, or the varint, that a value is and nothing else
 -- RocksDB: table/format.cc, util/coding.h
--- Pinned by: names_that_are_faults, flags_of_the_index, types_of_the_index
+-- Pinned by: names_that_are_faults, properties_that_are_faults
 unfoldable pub handle_in : List ℕ → Option Handle
 handle_in value = exactly (length value) (handle_at value)
 
@@ -57,33 +57,33 @@ varint_in value = exactly (length value) (varint_at value)
 
 -- the number of n bytes that a value is and nothing else
 -- RocksDB: table/format.cc, util/coding.h
--- Pinned by: names_that_are_faults, flags_of_the_index, types_of_the_index
+-- Pinned by: names_that_are_faults, properties_that_are_faults
 abbrev pub fixed_in : ℕ → List ℕ → Option ℕ
 fixed_in n value = if length value == n then fixed_at n value else None
 
 -- the number is there, and is this one
 -- Own.
--- Pinned by: types_of_the_index, files_of_other_databases
+-- Pinned by: properties_that_are_faults
 abbrev pub is_number : ℕ → Option ℕ → Bool
 is_number n None = false
 is_number n (Some m) = m == n
 
 -- the number is there, and is below this one
 -- Own.
--- Pinned by: types_of_the_index, files_of_other_databases
+-- Pinned by: properties_that_are_faults
 abbrev pub is_below : ℕ → Option ℕ → Bool
 is_below n None = false
 is_below n (Some m) = nat_lt m n
 
 -- the user keys are bytewise in order, or nothing is said of their order
--- Pinned by: other_orders, orders_and_types
+-- Pinned by: properties_that_are_faults
 abbrev pub comparator_fault : Option (List ℕ) → Option MetaFault
 comparator_fault None = None
 comparator_fault (Some value) = if bytes_eq value bytewise then None else Some meta.Comparator
 
 -- the type of the index: 0 and 1 are one row for each data block, 2 has two levels
 -- RocksDB: include/rocksdb/table.h, IndexType; 3 is refused
--- Pinned by: types_of_the_index, orders_and_types
+-- Pinned by: properties_that_are_faults
 abbrev pub index_type_by : Option ℕ → Option MetaFault
 index_type_by None = Some (meta.BadProperty name.IndexType)
 index_type_by (Some type) = if nat_lt 2 type then Some (meta.IndexType type) else None
@@ -94,20 +94,20 @@ index_type_fault (Some value) = index_type_by (fixed_in 4 value)
 
 -- the value is there, and is this number of four bytes
 -- Own.
--- Pinned by: types_of_the_index, files_of_other_databases
+-- Pinned by: properties_that_are_faults
 abbrev pub is_valued : ℕ → Option (List ℕ) → Bool
 is_valued n None = false
 is_valued n (Some value) = is_number n (fixed_in 4 value)
 
 -- the file is marked: it was made outside a database, and all its entries have one sequence number, which it says
 -- RocksDB: sst_file_writer_collectors.h; what is refused is own
--- Pinned by: files_of_other_databases, marks
+-- Pinned by: properties_that_are_faults
 abbrev pub is_marked : Option (List ℕ) → Bool
 is_marked external = is_valued 2 external
 
 -- a marked file has the sequence number, which is below 2^56
 -- RocksDB: sst_file_writer_collectors.h; what is refused is own
--- Pinned by: files_of_other_databases, marks
+-- Pinned by: properties_that_are_faults
 abbrev pub global_in : Option (List ℕ) → Option MetaFault
 global_in None = Some (meta.MissingProperty name.GlobalSequence)
 global_in (Some value) =
@@ -118,7 +118,7 @@ global_fault external global = if is_marked external then global_in global else 
 
 -- a file that was made outside a database has version 1, which says nothing more, or version 2, which marks it
 -- RocksDB: sst_file_writer_collectors.h; what is refused is own
--- Pinned by: files_of_other_databases, marks
+-- Pinned by: properties_that_are_faults
 abbrev pub external_fault : Option (List ℕ) → Option MetaFault
 external_fault None = None
 external_fault (Some value) =
@@ -128,21 +128,21 @@ external_fault (Some value) =
 
 -- a flag of the index is a varint
 -- RocksDB: table_properties.cc
--- Pinned by: flags, forms_that_are_not_read
+-- Pinned by: properties_that_are_faults, what_files_say_of_themselves
 abbrev pub flag_fault : Name → Option (List ℕ) → Option MetaFault
 flag_fault name None = None
 flag_fault name (Some value) = if is_some (varint_in value) then None else Some (meta.BadProperty name)
 
 -- the flag is set
 -- RocksDB: table_properties.cc
--- Pinned by: flags, forms_that_are_not_read
+-- Pinned by: properties_that_are_faults, what_files_say_of_themselves
 abbrev pub is_flag : Option (List ℕ) → Bool
 is_flag None = false
 is_flag (Some value) = not (is_number 0 (varint_in value))
 
 -- a form that isn't read yet: an index of two levels, or one with user keys or differences, or a mark
 -- Own, for now.
--- Pinned by: forms_that_are_not_read
+-- Pinned by: what_files_say_of_themselves
 abbrev pub form_fault : List Row → Option MetaFault
 form_fault props =
     if is_valued 2 (value_of (name_bytes name.IndexType) props) then Some meta.NotYet
@@ -152,14 +152,14 @@ form_fault props =
     else None
 
 -- one fault, or else another
--- Pinned by: the_first_of_the_properties
+-- Pinned by: properties_that_are_faults
 abbrev pub or_else : Option MetaFault → Option MetaFault → Option MetaFault
 or_else None next = next
 or_else (Some fault) next = Some fault
 
 -- the first fault of the properties that are looked at: the order of user keys, then the others by their names, then a
 -- form that isn't read yet
--- Pinned by: the_first_of_the_properties
+-- Pinned by: properties_that_are_faults
 unfoldable pub props_fault : List Row → Option MetaFault
 props_fault props =
     or_else (comparator_fault (value_of comparator props))
@@ -181,19 +181,19 @@ abbrev pub sound_props : List Row → Result (Option (List Row)) MetaFault
 sound_props props = unless_fault props (props_fault props)
 
 -- the properties in the block at a handle
--- Pinned by: metaindex_names, tombstones_before_properties
+-- Pinned by: names_that_are_faults
 abbrev pub props_in : List ℕ → ℕ → Option Handle → Result (Option (List Row)) MetaFault
 props_in file end None = Err (meta.BadProperty name.Properties)
 props_in file end (Some h) = then_open (block_at meta.Frame (meta.Block h) Names file end h) sound_props
 
 -- the properties to which the metaindex leads; a file with no such name has none
--- Pinned by: metaindex_names, tombstones_before_properties
+-- Pinned by: names_that_are_faults
 abbrev pub props_at : List ℕ → ℕ → Option (List ℕ) → Result (Option (List Row)) MetaFault
 props_at file end None = Ok None
 props_at file end (Some value) = props_in file end (handle_in value)
 
 -- the properties of a file whose metaindex has these rows
--- Pinned by: metaindex_names, tombstones_before_properties
+-- Pinned by: names_that_are_faults
 unfoldable pub props_read : List ℕ → ℕ → List Row → Result (Option (List Row)) MetaFault
 props_read file end names =
     if is_some (value_of range_tombstones names) then Err meta.RangeTombstones

@@ -32,7 +32,7 @@ LeadsToProps file end (Some value) (Some props) =
 
 -- the properties that a reader looks at have good values, where they are there
 -- Own, for now.
--- Pinned by: a_file_loads_as_it_says, good_properties
+-- Pinned by: a_file_loads_as_it_says, properties_that_are_good
 pub record AreGood (props : List Row) : Type 0 where
   -- user keys are in bytewise order
   pub comparator_is : IfSome (value_of comparator props) (λ value. value ≡ bytewise)

@@ -9,7 +9,7 @@ use Rattle.sst_meta.specs.declared.name.Name.TheVariants.{Properties, IndexType,
 -- the bytes of a name that a fault names
 -- RocksDB: table/meta_blocks.cc, kPropertiesBlockName; block_based_table_factory.cc, kIndexType;
 -- sst_file_writer_collectors.h; table_properties.cc
--- Pinned by: metaindex_names, orders_and_types, marks, flags
+-- Pinned by: names_that_are_faults, properties_that_are_faults
 abbrev pub name_bytes : Name → List ℕ
 name_bytes Properties = codes "rocksdb.properties"
 name_bytes IndexType = codes "rocksdb.block.based.table.index.type"
@@ -19,13 +19,13 @@ name_bytes IndexKeyIsUserKey = codes "rocksdb.index.key.is.user.key"
 name_bytes IndexValueIsDeltaEncoded = codes "rocksdb.index.value.is.delta.encoded"
 
 -- the metaindex has this name where there is a block of range tombstones
--- Pinned by: metaindex_names, other_metaindexes
+-- Pinned by: names_that_are_faults
 abbrev pub range_tombstones : List ℕ
 range_tombstones = codes "rocksdb.range_del"
 
 -- the property that names the order of user keys, and its value for the bytewise order
 -- RocksDB: table_properties.cc, kComparator; util/comparator.cc
--- Pinned by: orders_and_types, good_properties
+-- Pinned by: properties_that_are_faults, properties_that_are_good
 abbrev pub comparator : List ℕ
 comparator = codes "rocksdb.comparator"
 

@@ -3,7 +3,7 @@
 use Rattle.std.specs.Prelude.{ℕ, List, codes}
 
 -- the names, each as it stands in a file
--- Pinned by: the_file_of_a_line
+-- Pinned by: worked_files
 abbrev pub data_size : List ℕ
 data_size = codes "rocksdb.data.size"
 

@@ -4,6 +4,6 @@ use Rattle.sst_text.specs.declared.entry_line.Fields as code
 use Rattle.sst_text.specs.Texts.{Fields}
 
 -- the fields without where they lie in memory
--- Pinned by: run.written
+-- Pinned by: run.ends
 abbrev pub seen : code.Fields → Fields
 seen f = record { user = f.user.now; seq = f.seq; kind = f.kind; value = f.value.now }

@@ -1,5 +1,5 @@
 -- How much of a text was taken: up to the end of a line, and at most one piece more.
--- Pinned by: refused_calls_take_a_piece_more, refused_write_reads_on
+-- Pinned by: refused_calls_take_a_piece_more
 use Rattle.std.specs.Prelude.{◌≡◌, ℕ, zero, suc, ◌+◌, ◌==◌, ◌≤◌, if◌then◌else◌, List, [], ◌∷◌, length, Option, Some}
 
 -- what follows the first line of a text and its line end; nothing where no line ends
