@@ -1,5 +1,5 @@
 //! The index and the data blocks of a file that is opened.
-ghost use Rattle.std.specs.Prelude.{◌≡◌, ◌≢◌, ℕ, ◌^◌, ◌≤◌, ◌⊎◌, false, List, [], ◌∷◌, ◌++◌, length, Some, Ok, Err, IsTrue, OnOk, IfOk};
+ghost use Rattle.std.specs.Prelude.{◌≡◌, ◌≢◌, ℕ, ◌^◌, ◌≤◌, false, List, [], ◌∷◌, ◌++◌, length, Some, Ok, Err, IsTrue, OnOk, IfOk};
 ghost use Rattle.sst_num.specs.NumberReading.{handle_at};
 ghost use Rattle.sst_block.specs.Block.{Row, IsHandle};
 ghost use Rattle.sst_block.specs.BlockReading.{Reads};
