@@ -40,12 +40,7 @@ pub fn look_up<F: Folder>(
 }
 
 /// The newest entry of a user key at a snapshot, from an open table, copied.
-fn found(
-    alloc: Global,
-    table: &BbtReader,
-    user: &[u8],
-    seq: u64,
-) -> Result<Option<Entry>, Memory>
+fn found(alloc: Global, table: &BbtReader, user: &[u8], seq: u64) -> Result<Option<Entry>, Memory>
     ensures { (entries : List entry_type) → StandsFor table.now entries
         → IfOk result (λ found. found ≡ found_in entries user.now seq) }
 {
