@@ -1,7 +1,6 @@
 -- What the loop over the lines of an input keeps.
-use Rattle.std.proofs.Common.{◌≡◌, ℕ, ◌-◌, ◌*◌, ◌^◌, ◌<◌, ◌≤◌, List, [], ◌∷◌, ◌++◌, length, Option, refl, sym, subst, arith}
+use Rattle.std.proofs.Common.{◌≡◌, ℕ, ◌-◌, ◌^◌, ◌<◌, ◌≤◌, List, [], ◌∷◌, ◌++◌, length, Option, refl, sym, subst, arith}
 use Rattle.sst_key.specs.declared.entries.Entry.{Entry}
-use Rattle.sst_key.specs.Entry.{weight}
 use Rattle.std.proofs.lemmas.Bool.{lt-ltb}
 use Rattle.sst_bbt_write.specs.declared.bbt_options.BbtOptions.{BbtOptions}
 use Rattle.sst_bbt_write.specs.declared.bbt_writer.BbtWriter.{BbtWriter}

@@ -1,11 +1,13 @@
 -- What a run of any command comes to, by how it ends.
-use Rattle.std.proofs.Common.{◌≡◌, ◌≢◌, ◌⊎◌, ℕ, List, Option, None, Some, Result, Ok, Err, refl, inl, inr}
+use Rattle.std.proofs.Common.{◌≡◌, ◌≢◌, ◌⊎◌, ℕ, List, Option, None, Some, Result, Ok, Err, IsTrue, refl, inl, inr}
 use Rattle.std.specs.Io.KnownBytes.{append_known}
+use Rattle.sst_key.specs.declared.calls.Call.{Call}
+use Rattle.sst_cli.specs.InputReading.{read_calls}
 use Rattle.sst_key.specs.declared.entries.Entry.{Entry}
-use Rattle.sst_device.specs.Folder.{file_of}
+use Rattle.sst_device.specs.Folder.{file_of, misses}
 use Rattle.sst_bbt_read.specs.Opening.{blocks_read}
 use Rattle.sst_bbt_read.specs.declared.bbt_fault.BbtFault.{BbtFault}
-use Rattle.sst_cli.specs.Behaviour.{World, Behaviour, IsFault, Ends, CallsFor}
+use Rattle.sst_cli.specs.Behaviour.{Told, World, IsFault, Ends, CallsFor}
 use Rattle.sst_cli.specs.CallsCommand.{FoundCalls, Refused, Read, calls_outcome}
 use Rattle.sst_cli.specs.Command.{Command, Write, Calls, behaviour}
 use Rattle.sst_cli.specs.NoCommand.{no_command, usage_text}
@@ -14,7 +16,7 @@ use Rattle.sst_cli.specs.WriteCommand.{write_outcome}
 use Rattle.sst_cli.specs.declared.input.refusal.Refusal.{Refusal}
 use Rattle.sst_cli.specs.declared.status.Status.{Status}
 use Rattle.sst_cli.specs.declared.status.Status.TheVariants.{Done, Usage, Input, File, Exhausted, Device}
-use Rattle.sst_cli.proofs.CallsRuns.{whole_file}
+use Rattle.sst_cli.proofs.CallsRuns.{whole_file, device_found}
 use Rattle.sst_cli.proofs.RunEnds.{whole_or_fault, whole_unless, not_usage, not_file, not_exhausted}
 
 pub usage : (before after : World) (status : Status) → Ends no_command before after status
@@ -84,3 +86,12 @@ file_only (Some (Write write)) before after status ends is =
 file_only (Some (Calls name)) before after status ends is =
     let found = whole_unless (behaviour (Some (Calls name))) before after status ends (not_file status is) in
     (name, refl, whole_file name before after status found.0 found.1 found.2 is)
+
+pub device : (command : Option Command) (told : Told) → CallsFor (behaviour command) told Device
+    → (name : List ℕ) × (command ≡ Some (Calls name)) × IsTrue (misses told.held name 0)
+    × ((text : List ℕ) → told.left ≡ Some text → (calls : List Call) × (read_calls text ≡ Ok calls))
+device None told found = let ends = found.2 in absurd (cc ends)
+device (Some (Write write)) told found = absurd (neither_of Device Device (write_status found.0 Device found.2) refl (λ e. cc) (λ e. cc))
+device (Some (Calls name)) told found =
+    let some = device_found name told found.0 found.1 Device found.2 refl in
+    (name, refl, some.0, some.1)

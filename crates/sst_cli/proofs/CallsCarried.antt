@@ -1,9 +1,8 @@
 -- A `calls` whose input is read is carried out as a command that opens its file.
-use Rattle.std.proofs.Common.{◌≡◌, ◌⊎◌, ℕ, List, [], Option, Some, Ok, refl, sym, subst, inl, inr}
+use Rattle.std.proofs.Common.{◌≡◌, ◌⊎◌, ℕ, List, [], Option, Some, Ok, sym, subst, inl, inr}
 use Rattle.sst_key.specs.declared.calls.Call.{Call}
 use Rattle.sst_device.specs.Folder.{Files}
-use Rattle.sst_bbt_spec.specs.Way.{IndexedBlock}
-use Rattle.sst_cli.specs.Behaviour.{World, Outcome, Behaviour, IsFault, InputIs, Ends, Carries, tells, world}
+use Rattle.sst_cli.specs.Behaviour.{World, InputIs, Ends, Carries, world}
 use Rattle.sst_cli.specs.CallsCommand.{Read, IsRefusedInput, answers_of, calls_command}
 use Rattle.sst_cli.specs.OpenFile.{OpenFile, Absent, Damaged, Opened, file_outcome, on_file}
 use Rattle.sst_cli.specs.InputReading.{read_calls}

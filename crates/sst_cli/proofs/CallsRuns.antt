@@ -1,5 +1,5 @@
 -- What a run of `calls` comes to, by how it ends.
-use Rattle.std.proofs.Common.{◌≡◌, ◌⊎◌, ℕ, zero, suc, List, [], take, Option, Some, Result, Ok, Err, IsTrue, refl, sym, ap, subst, ◌∙◌, inl, inr}
+use Rattle.std.proofs.Common.{◌≡◌, ◌⊎◌, ℕ, zero, suc, List, [], take, Some, Ok, Err, IsTrue, refl, sym, ap, subst, ◌∙◌, inl, inr}
 use Rattle.std.specs.Io.KnownBytes.{append_known}
 use Rattle.sst_key.specs.declared.calls.Call.{Call}
 use Rattle.sst_key.specs.declared.entries.Entry.{Entry}
@@ -10,7 +10,7 @@ use Rattle.sst_bbt_spec.specs.Way.{IndexedBlock}
 use Rattle.sst_bbt_read.specs.Opening.{blocks_read}
 use Rattle.sst_bbt_read.specs.declared.bbt_fault.BbtFault.{BbtFault}
 use Rattle.sst_bbt_read.proofs.FaultsShown.{blocks_read-fault}
-use Rattle.sst_cli.specs.Behaviour.{World, IsFault, IsWhole, Ends}
+use Rattle.sst_cli.specs.Behaviour.{Told, World, IsFault, IsWhole, Ends}
 use Rattle.sst_cli.specs.CallsCommand.{Answered, AnsweredByWay, IsDamaged, FoundCalls, Refused, Read, AreFoundCalls, calls_command, calls_outcome}
 use Rattle.sst_cli.specs.OpenFile.{OpenFile, Absent, Damaged, Opened, IsOpenFile}
 use Rattle.sst_cli.specs.InputReading.{read_calls}
@@ -18,7 +18,7 @@ use Rattle.sst_cli.specs.Refusals.{refusal_text}
 use Rattle.sst_cli.specs.Replies.{way_text}
 use Rattle.sst_cli.specs.declared.input.refusal.Refusal.{Refusal}
 use Rattle.sst_cli.specs.declared.status.Status.{Status}
-use Rattle.sst_cli.specs.declared.status.Status.TheVariants.{Done, Input, File}
+use Rattle.sst_cli.specs.declared.status.Status.TheVariants.{Done, Input, File, Device}
 use Rattle.sst_cli.proofs.CallsCarried.{file_not_input}
 use Rattle.sst_cli.proofs.Carried.{append_known-nil}
 use Rattle.sst_cli.proofs.FileFound.{file_told, not_missed, there_not_missed, opens_once, opens_no_fault}
@@ -54,7 +54,7 @@ whole_answered name before after status file text blocks calls Absent is whole o
 whole_answered name before after status file text blocks calls (Damaged fault) is whole opens there told =
     absurd (opens_no_fault file blocks fault opens (file_told before.told.held name file (λ f. blocks_read f ≡ Err fault) is there))
 whole_answered name before after status file text blocks calls (Opened some) is whole opens there told =
-    let same = opens_once file some blocks (file_told before.told.held name file (λ f. Opens f some) is there) opens in
+    let same = opens_once file some blocks (file_told before.told.held name file (λ f. Opens f some) is.1 there) opens in
     record {
       done = whole.ends;
       kept = whole.leaves.0;
@@ -105,7 +105,7 @@ whole_damaged name before after status file text calls (Damaged fault) is whole 
       printed = whole.printed;
     }
 whole_damaged name before after status file text calls (Opened blocks) is whole there closed told =
-    absurd (closed blocks (file_told before.told.held name file (λ f. Opens f blocks) is there))
+    absurd (closed blocks (file_told before.told.held name file (λ f. Opens f blocks) is.1 there))
 
 pub damaged : (name : List ℕ) (before after : World) (status : Status) (file text : List ℕ) (calls : List Call)
     → Ends (calls_command name) before after status → file_of before.told.held name ≡ Some file
@@ -148,7 +148,7 @@ near name before after status text refusal ends told reads input =
 missed_only : (name : List ℕ) (before : World) (found : OpenFile) → IsTrue (misses before.told.held name 0) → IsOpenFile before.told.held name found → found ≡ Absent
 missed_only name before Absent missed is = refl
 missed_only name before (Damaged fault) missed is = absurd (there_not_missed before.told.held name (λ f. blocks_read f ≡ Err fault) missed is)
-missed_only name before (Opened blocks) missed is = absurd (there_not_missed before.told.held name (λ f. Opens f blocks) missed is)
+missed_only name before (Opened blocks) missed is = absurd (there_not_missed before.told.held name (λ f. Opens f blocks) missed is.1)
 
 whole_absent : (name : List ℕ) (before after : World) (status : Status) (found : FoundCalls)
     → AreFoundCalls name before.told found → IsWhole (calls_command name) found before after status → IsTrue (misses before.told.held name 0)
@@ -210,7 +210,7 @@ pub done : (name : List ℕ) (before after : World) (status : Status) (file text
 done name before after status file text ends is there told =
     let found = whole_unless (calls_command name) before after status ends (not_done status is) in
     let opened = done_opened name before after status found.0 found.1 found.2 is in
-    let opens = file_told before.told.held name file (λ f. Opens f opened.1) opened.2.1 there in (
+    let opens = file_told before.told.held name file (λ f. Opens f opened.1) opened.2.1.1 there in (
       opened.1,
       opened.0,
       opens,
@@ -229,7 +229,7 @@ pub done_only : (name : List ℕ) (before after : World) (status : Status) (file
 done_only name before after status file ends is there =
     let found = whole_unless (calls_command name) before after status ends (not_done status is) in
     let opened = done_opened name before after status found.0 found.1 found.2 is in
-    (opened.1, file_told before.told.held name file (λ f. Opens f opened.1) opened.2.1 there)
+    (opened.1, file_told before.told.held name file (λ f. Opens f opened.1) opened.2.1.1 there)
 
 -- Done and File come after the whole input
 done_or_file : (status : Status) → (status ≡ Done) ⊎ (status ≡ File) → IsFault status → ⊥
@@ -291,3 +291,11 @@ statuses name before after status ends =
       | inl fault ↦ inr (inr (inr fault))
       | inr found ↦ whole_status name before after status found.0 found.2
     ]
+
+-- with Device, but for a fault, the file isn't there, after the refusals of the input
+pub device_found : (name : List ℕ) (told : Told) (found : FoundCalls) → AreFoundCalls name told found → (status : Status) → status ≡ (calls_outcome found).status → status ≡ Device
+    → IsTrue (misses told.held name 0) × ((text : List ℕ) → told.left ≡ Some text → (calls : List Call) × (read_calls text ≡ Ok calls))
+device_found name told (Refused refusal) is status ends device = absurd (cc (ends, device))
+device_found name told (Read calls Absent) is status ends device = (is.1, λ text left. (calls, is.0 text left))
+device_found name told (Read calls (Damaged fault)) is status ends device = absurd (cc (ends, device))
+device_found name told (Read calls (Opened blocks)) is status ends device = absurd (cc (ends, device))

@@ -7,7 +7,7 @@ use Rattle.sst_cli.specs.Behaviour.{World, Outcome, Behaviour, IsFault, IsStop, 
 use Rattle.std.specs.Option.{option_map}
 use Rattle.sst_cli.specs.Command.{behaviour, seen}
 use Rattle.sst_cli.specs.declared.command.Command.{Command as Code}
-use Rattle.sst_cli.specs.Printed.{IsPrinted, IsPrintedShort}
+use Rattle.sst_cli.specs.Printed.{IsPrinted}
 use Rattle.sst_cli.specs.declared.status.Status.{Status}
 use Rattle.sst_cli.specs.declared.status.Status.TheVariants.{Device}
 

@@ -1,5 +1,5 @@
 -- The words are a command by the first of them exactly where they are one by their places.
-use Rattle.std.proofs.Common.{◌≡◌, ℕ, ◌&&◌, Bool, true, false, cond, List, [], ◌∷◌, codes, Option, None, Some, refl, ap, ◌∙◌}
+use Rattle.std.proofs.Common.{◌≡◌, ℕ, ◌&&◌, Bool, true, false, cond, List, [], ◌∷◌, codes, Option, None, Some, refl, ap, subst}
 use Rattle.std.specs.Option.{option_map}
 use Rattle.std.specs.Str.{bytes_eq}
 use Rattle.std.specs.Cmp.Lexicographic.{bytes_decides}
@@ -34,40 +34,38 @@ is_calls (a ∷ (x ∷ rest) ∷ []) name e =
     rw (not_write, second) (ap (option_map Calls) (rw second at e))
 is_calls (a ∷ b ∷ c ∷ rest) name e = absurd cc
 
--- the command by two tests
-by_write : (s t : Bool) (w : Option WriteLine) (n : Option (List ℕ)) (write : WriteLine)
-    → ◌≡◌ {A = Option Command} (cond s (option_map Write w) (cond t (option_map Calls n) None)) (Some (Write write)) → w ≡ Some write
-by_write true t None n write e = absurd cc
-by_write true t (Some x) n write e = cc
-by_write false true w None write e = absurd cc
-by_write false true w (Some x) write e = absurd cc
-by_write false false w n write e = absurd cc
+-- ---- what each test says, whichever commands there are
 
-by_calls : (s t : Bool) (w : Option WriteLine) (n : Option (List ℕ)) (name : List ℕ)
-    → ◌≡◌ {A = Option Command} (cond s (option_map Write w) (cond t (option_map Calls n) None)) (Some (Calls name)) → n ≡ Some name
-by_calls true t None n name e = absurd cc
-by_calls true t (Some x) n name e = absurd cc
-by_calls false true w None name e = absurd cc
-by_calls false true w (Some x) name e = cc
-by_calls false false w n name e = absurd cc
+-- words of which a test makes a command, or the tests after it, are of that command
+sound_step : {A : Type 0} (test : Bool) (make : A → Command) (o : Option A) (rest : Option Command) (command : Command) (P : Command → Type 0)
+    → ((x : A) → o ≡ Some x → P (make x)) → (rest ≡ Some command → P command) → cond test (option_map make o) rest ≡ Some command → P command
+sound_step true make None rest command P here later e = absurd cc
+sound_step true make (Some x) rest command P here later e = let same : make x ≡ command = cc in subst P same (here x refl)
+sound_step false make o rest command P here later e = later e
 
-by_neither : (s t : Bool) (w : Option WriteLine) (n : Option (List ℕ)) → w ≡ None → n ≡ None
-    → ◌≡◌ {A = Option Command} (cond s (option_map Write w) (cond t (option_map Calls n) None)) None
-by_neither true t None n a b = refl
-by_neither true t (Some x) n a b = absurd cc
-by_neither false true w None a b = refl
-by_neither false true w (Some x) a b = absurd cc
-by_neither false false w n a b = refl
+-- and words of which neither does are none
+none_step : {A : Type 0} (test : Bool) (make : A → Command) (o : Option A) (rest : Option Command) → o ≡ None → rest ≡ None → cond test (option_map make o) rest ≡ None
+none_step true make None rest here later = refl
+none_step true make (Some x) rest here later = absurd cc
+none_step false make o rest here later = later
+
+-- the words are a command by their places
+abbrev IsOf : List (List ℕ) → Command → Type 0
+IsOf words (Write write) = write_line words ≡ Some write
+IsOf words (Calls name) = calls_name words ≡ Some name
+
+command_is : (words : List (List ℕ)) (command : Command) → command_of words ≡ Some command → IsOf words command
+command_is [] command e = absurd cc
+command_is (a ∷ rest) command e =
+    let words = a ∷ rest in
+    sound_step (bytes_eq a (codes "write")) Write (write_line words) _ command (IsOf words) (λ write is. is)
+    (sound_step (bytes_eq a (codes "calls")) Calls (calls_name words) None command (IsOf words) (λ name is. is) (λ none. absurd cc)) e
 
 pub write_is : (words : List (List ℕ)) (write : WriteLine) → command_of words ≡ Some (Write write) → write_line words ≡ Some write
-write_is [] write e = absurd cc
-write_is (a ∷ rest) write e =
-    by_write (bytes_eq a (codes "write")) (bytes_eq a (codes "calls")) (write_line (a ∷ rest)) (calls_name (a ∷ rest)) write e
+write_is words write e = command_is words (Write write) e
 
 pub calls_is : (words : List (List ℕ)) (name : List ℕ) → command_of words ≡ Some (Calls name) → calls_name words ≡ Some name
-calls_is [] name e = absurd cc
-calls_is (a ∷ rest) name e =
-    by_calls (bytes_eq a (codes "write")) (bytes_eq a (codes "calls")) (write_line (a ∷ rest)) (calls_name (a ∷ rest)) name e
+calls_is words name e = command_is words (Calls name) e
 
 none_where : {A : Type 0} (o : Option A) → ((x : A) → o ≡ Some x → ⊥) → o ≡ None
 none_where None never = refl
@@ -89,5 +87,5 @@ none_is words none =
 pub is_none : (words : List (List ℕ)) → out_name words ≡ None → calls_name words ≡ None → command_of words ≡ None
 is_none [] no_out no_calls = refl
 is_none (a ∷ rest) no_out no_calls =
-    by_neither (bytes_eq a (codes "write")) (bytes_eq a (codes "calls")) (write_line (a ∷ rest)) (calls_name (a ∷ rest))
-    (no_map (λ (line : WriteLine). line.name) (write_line (a ∷ rest)) no_out) no_calls
+    none_step (bytes_eq a (codes "write")) Write (write_line (a ∷ rest)) _ (no_map (λ (line : WriteLine). line.name) (write_line (a ∷ rest)) no_out)
+    (none_step (bytes_eq a (codes "calls")) Calls (calls_name (a ∷ rest)) None no_calls refl)

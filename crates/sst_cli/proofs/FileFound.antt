@@ -110,20 +110,20 @@ pub one_file_outcome : (answer : List IndexedBlock → Outcome) (files : Files) 
     → IsOpenFile (Some files) name some → IsOpenFile (Some files) name other → file_outcome answer some ≡ file_outcome answer other
 one_file_outcome answer files name Absent Absent a b = refl
 one_file_outcome answer files name Absent (Damaged fault) a b = absurd (there_not_missed (Some files) name (λ file. blocks_read file ≡ Err fault) a b)
-one_file_outcome answer files name Absent (Opened blocks) a b = absurd (there_not_missed (Some files) name (λ file. Opens file blocks) a b)
+one_file_outcome answer files name Absent (Opened blocks) a b = absurd (there_not_missed (Some files) name (λ file. Opens file blocks) a b.1)
 one_file_outcome answer files name (Damaged fault) Absent a b = absurd (there_not_missed (Some files) name (λ file. blocks_read file ≡ Err fault) b a)
 one_file_outcome answer files name (Damaged fault) (Damaged other) a b =
     let one = both_of_one files name (λ file. blocks_read file ≡ Err fault) (λ file. blocks_read file ≡ Err other) a b in
     ap (λ (f : BbtFault). file_outcome answer (Damaged f)) (same_err (blocks_read one.0) fault other one.1 one.2)
 one_file_outcome answer files name (Damaged fault) (Opened blocks) a b =
-    let one = both_of_one files name (λ file. blocks_read file ≡ Err fault) (λ file. Opens file blocks) a b in
+    let one = both_of_one files name (λ file. blocks_read file ≡ Err fault) (λ file. Opens file blocks) a b.1 in
     absurd (opens_no_fault one.0 blocks fault one.2 one.1)
-one_file_outcome answer files name (Opened blocks) Absent a b = absurd (there_not_missed (Some files) name (λ file. Opens file blocks) b a)
+one_file_outcome answer files name (Opened blocks) Absent a b = absurd (there_not_missed (Some files) name (λ file. Opens file blocks) b a.1)
 one_file_outcome answer files name (Opened blocks) (Damaged fault) a b =
-    let one = both_of_one files name (λ file. Opens file blocks) (λ file. blocks_read file ≡ Err fault) a b in
+    let one = both_of_one files name (λ file. Opens file blocks) (λ file. blocks_read file ≡ Err fault) a.1 b in
     absurd (opens_no_fault one.0 blocks fault one.1 one.2)
 one_file_outcome answer files name (Opened blocks) (Opened others) a b =
-    let one = both_of_one files name (λ file. Opens file blocks) (λ file. Opens file others) a b in
+    let one = both_of_one files name (λ file. Opens file blocks) (λ file. Opens file others) a.1 b.1 in
     ap answer (opens_once one.0 blocks others one.1 one.2)
 
 -- and there is always one
@@ -131,7 +131,7 @@ found_bytes : (files : Files) (name file : List ℕ) (read : Result (List RowBlo
     → (found : OpenFile) × IsOpenFile (Some files) name found
 found_bytes files name file (Ok rows) there reads =
     let opens = blocks_read-found file rows reads in
-    (Opened opens.0, λ all is. (file, (let same : files ≡ all = cc in rw (← same) there), opens.1))
+    (Opened opens.0, (opens-seqs file opens.0 opens.1, λ all is. (file, (let same : files ≡ all = cc in rw (← same) there), opens.1)))
 found_bytes files name file (Err fault) there reads =
     (Damaged fault, λ all is. (file, (let same : files ≡ all = cc in rw (← same) there), reads))
 

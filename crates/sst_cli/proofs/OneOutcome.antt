@@ -1,14 +1,13 @@
 -- In a told world what a command may find has one outcome, and there is always something to find.
 use Rattle.std.proofs.Common.{◌≡◌, ℕ, List, Option, None, Some, Result, Ok, Err, refl, sym, ap, ◌∙◌}
 use Rattle.sst_key.specs.declared.calls.Call.{Call}
-use Rattle.sst_key.specs.declared.entries.Entry.{Entry}
 use Rattle.sst_device.specs.Folder.{Files}
-use Rattle.sst_cli.specs.Behaviour.{Behaviour, InputIs, tells}
+use Rattle.sst_cli.specs.Behaviour.{InputIs, tells}
 use Rattle.sst_cli.specs.CallsCommand.{FoundCalls, Refused, Read, AreFoundCalls, answers_of, calls_outcome}
 use Rattle.sst_cli.specs.Command.{Command, Write, Calls, behaviour}
 use Rattle.sst_cli.specs.InputReading.{read_calls, read_input}
 use Rattle.sst_cli.specs.WriteCommand.{write_outcome}
-use Rattle.sst_cli.specs.OpenFile.{OpenFile, file_outcome}
+use Rattle.sst_cli.specs.OpenFile.{file_outcome}
 use Rattle.sst_cli.specs.declared.input.refusal.Refusal.{Refusal}
 use Rattle.sst_cli.proofs.FileFound.{found_file, one_file_outcome}
 use Rattle.sst_cli.proofs.OneReading.{same_ok, same_err, not_both}

@@ -1,5 +1,5 @@
 -- An input reads as one thing.
-use Rattle.std.proofs.Common.{◌≡◌, ◌⊎◌, List, Option, Some, Result, Ok, Err, sym, ◌∙◌, inl, inr}
+use Rattle.std.proofs.Common.{◌≡◌, ◌⊎◌, Option, Some, Result, Ok, Err, sym, ◌∙◌, inl, inr}
 
 pub same_some : {A : Type 0} (o : Option A) (x y : A) → o ≡ Some x → o ≡ Some y → x ≡ y
 same_some o x y a b = let both = sym a ∙ b in cc

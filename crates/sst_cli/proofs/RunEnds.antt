@@ -1,7 +1,7 @@
 -- What follows for every command from how it ends: its status, and what it printed.
-use Rattle.std.proofs.Common.{◌≡◌, ◌≢◌, ◌⊎◌, ℕ, List, [], Option, refl, ap, ◌∙◌, inl, inr}
+use Rattle.std.proofs.Common.{◌≡◌, ◌≢◌, ◌⊎◌, ℕ, List, refl, inl, inr}
 use Rattle.std.specs.Io.KnownBytes.{append_known}
-use Rattle.sst_cli.specs.Behaviour.{World, Behaviour, IsFault, HasFailed, IsStop, IsWhole, IsCut, IsStopped, Ends, CallsFor, MayPrint}
+use Rattle.sst_cli.specs.Behaviour.{World, Behaviour, IsFault, HasFailed, IsStop, IsWhole, Ends, CallsFor, MayPrint}
 use Rattle.sst_cli.specs.Printed.{Prints}
 use Rattle.sst_cli.specs.declared.status.Status.{Status}
 use Rattle.sst_cli.specs.declared.status.Status.TheVariants.{Done, Usage, Input, File, Exhausted, Device, Memory}

@@ -1,5 +1,5 @@
 -- Which stop a call passed on.
-use Rattle.std.proofs.Common.{◌≡◌, ◌⊎◌, ℕ, Result, Err, sym, ap, ◌∙◌, inl, inr}
+use Rattle.std.proofs.Common.{◌≡◌, ℕ, Result, Err, sym, ap, ◌∙◌}
 use Rattle.sst_device.specs.declared.folder.DevStop.{DevStop}
 use Rattle.sst_device.specs.declared.folder.DevStop.TheVariants.{Failed}
 use Rattle.sst_cli.specs.declared.input.entries.InputStop.{InputStop}

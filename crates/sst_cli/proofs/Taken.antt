@@ -1,14 +1,13 @@
 -- How much of a text was taken, line by line.
-use Rattle.std.proofs.Common.{◌≡◌, inl, inr, ℕ, zero, suc, ◌+◌, ◌≤◌, ◌==◌, true, false, cond, List, [], ◌∷◌, ◌++◌, length, take, drop, Option, Some, None, refl, sym, ap, ◌∙◌, length-append, arith}
+use Rattle.std.proofs.Common.{◌≡◌, inl, inr, ℕ, zero, suc, ◌+◌, ◌≤◌, List, ◌++◌, length, take, drop, Option, Some, None, refl, sym, ap, ◌∙◌, arith}
 use Rattle.std.specs.Option.{option_map}
 use Rattle.std.specs.Io.KnownBytes.{prepend_known}
-use Rattle.std.proofs.lemmas.List.{append-nil}
 use Rattle.sst_cli.specs.declared.input.refusal.Refusal.{Refusal}
 use Rattle.sst_text.specs.Texts.{cut}
 use Rattle.sst_cli.specs.NextLine.{IsNext, HasNoLine}
 use Rattle.sst_text.specs.Taken.{past_line, past_lines, IsTakenTo}
 use Rattle.sst_text.proofs.Cut.{cut-append_some}
-use Rattle.sst_text.proofs.PastLine.{past_line-found, past_line-append, near_piece, near_none}
+use Rattle.sst_text.proofs.PastLine.{past_line-found, past_line-append}
 
 -- the line that was found is passed
 pub near_passed : (unread : List ℕ) (left : Option (List ℕ)) (n : ℕ) → IsNext (Some n) unread left → length (past_line unread) ≤ 65536

@@ -1,5 +1,5 @@
 -- What a run of `write` comes to, by how it ends.
-use Rattle.std.proofs.Common.{◌≡◌, ◌⊎◌, ℕ, List, Option, Some, Result, Ok, Err, refl, subst, inl, inr}
+use Rattle.std.proofs.Common.{◌≡◌, ◌⊎◌, ℕ, List, Some, Result, Ok, Err, refl, subst, inl, inr}
 use Rattle.std.specs.Io.KnownBytes.{append_known}
 use Rattle.sst_key.specs.declared.entries.Entry.{Entry}
 use Rattle.sst_device.specs.Folder.{put_file}
@@ -11,7 +11,7 @@ use Rattle.sst_cli.specs.Words.{WriteLine}
 use Rattle.sst_cli.specs.WriteCommand.{Wrote, write_command}
 use Rattle.sst_cli.specs.declared.input.refusal.Refusal.{Refusal}
 use Rattle.sst_cli.specs.declared.status.Status.{Status}
-use Rattle.sst_cli.specs.declared.status.Status.TheVariants.{Done, Input, Device, Memory}
+use Rattle.sst_cli.specs.declared.status.Status.TheVariants.{Done, Input}
 use Rattle.sst_cli.proofs.OneReading.{same_ok, same_err, not_both}
 use Rattle.sst_cli.proofs.RunEnds.{whole_or_fault, whole_unless, not_done, not_input}
 

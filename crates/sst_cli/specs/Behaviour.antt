@@ -4,11 +4,11 @@
 -- A command is said by what it finds: of the texts and files that are told, what they read as. Its status and its text
 -- are a function of that. A command that reads two files, or changes some bytes of one, has no more than that to say:
 -- files are spoken of as the whole of the folder. Where damage is met midway, what was found is the answers so far and the
--- fault (`cut_by`, OpenFile). A command that is added brings its words (a case of `Command`, and of `command_of`), its
--- behaviour in a file of its own, its case of `behaviour`, and a file under src/commands; no definition or proof of
--- another command changes. So `scan FILE`, which prints all entries, would touch specs/Words and specs/Command and
--- src/command and src/program (the words, one case each), and bring specs/ScanCommand (some `on_file`) and
--- src/commands/scan.
+-- fault (`cut_by`, OpenFile). A command that is added brings its behaviour and its code in files of their own, and a case
+-- wherever the commands stand in a row; no definition or proof of another command changes. So `scan FILE`, which would print
+-- all entries of a file, has specs/ScanCommand (`on_file`, with the entries' lines as the text) and src/commands/scan, and adds a
+-- case to specs/Words (its words), specs/Command (`Command`, `seen`, `command_by`, `behaviour`), src/command, src/commands and
+-- src/program (one arm), and a clause to the lemmas over all commands (proofs/CommandWords, OneOutcome, AnyRuns).
 use Rattle.std.specs.Prelude.{◌≡◌, ◌⊎◌, ℕ, List, take, Option, Some}
 use Rattle.std.specs.Io.KnownBytes.{append_known}
 use Rattle.std.specs.FinMap.{get}

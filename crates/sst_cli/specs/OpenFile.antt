@@ -1,12 +1,13 @@
 -- A command that opens a file and prints something of it: what the file may be found as, and what is answered then.
-use Rattle.std.specs.Prelude.{◌≡◌, ℕ, List, [], ◌++◌, Option, Err, IsTrue}
+use Rattle.std.specs.Prelude.{◌≡◌, ℕ, List, [], ◌++◌, Option, Err, IsTrue, All}
 use Rattle.sst_bbt_spec.specs.BlockBased.{Opens}
-use Rattle.sst_bbt_spec.specs.Way.{IndexedBlock}
+use Rattle.sst_bbt_spec.specs.Rows.{HasSeq}
+use Rattle.sst_bbt_spec.specs.Way.{IndexedBlock, joined}
 use Rattle.sst_bbt_read.specs.FaultText.{fault_text}
 use Rattle.sst_bbt_read.specs.Opening.{blocks_read}
 use Rattle.sst_bbt_read.specs.declared.bbt_fault.BbtFault.{BbtFault}
 use Rattle.sst_device.specs.Folder.{Files, misses}
-use Rattle.sst_cli.specs.Behaviour.{Told, Outcome, Behaviour, FileIs}
+use Rattle.sst_cli.specs.Behaviour.{Outcome, Behaviour, FileIs}
 use Rattle.sst_cli.specs.declared.status.Status.TheVariants.{Done, File, Device}
 
 -- what a file may be found as: the folder tells that it isn't there; this fault is the first thing that is wrong with
@@ -17,12 +18,13 @@ pub data OpenFile : Type 0 where
   Damaged : BbtFault → OpenFile
   Opened : List IndexedBlock → OpenFile
 
--- where the folder tells its files, the named one is found so
+-- Where the folder tells its files, the named one is found so. The sequence numbers of blocks to which a file opens are in
+-- range, be the files told or not.
 -- Pinned by: what_calls_come_to.answered, what_calls_come_to.damaged, what_calls_come_to.absent
 abbrev pub IsOpenFile : Option Files → List ℕ → OpenFile → Type 0
 IsOpenFile held name Absent = IsTrue (misses held name 0)
 IsOpenFile held name (Damaged fault) = FileIs held name (λ file. blocks_read file ≡ Err fault)
-IsOpenFile held name (Opened blocks) = FileIs held name (λ file. Opens file blocks)
+IsOpenFile held name (Opened blocks) = All HasSeq (joined blocks) × FileIs held name (λ file. Opens file blocks)
 
 -- the command did all, and this is its text
 -- Pinned by: what_calls_come_to.answered

@@ -7,7 +7,7 @@ use crate::output::damage::fault_line;
 use sst_bbt_read::{BbtFault, BbtReader};
 use sst_bbt_write::BbtOptions;
 use sst_device::{FrameFault, MemFolder, MemIntake};
-use sst_key::Kind;
+use sst_key::{Kind, Reply};
 use sst_meta::MetaFault;
 use sst_num::{Handle, Stop, put_fixed32};
 use sst_sums::{crc32c, mask};
@@ -62,22 +62,36 @@ fn fault_of(alloc: Global, bytes: &[u8]) -> Result<Option<BbtFault>, Fail> {
     }
 }
 
-/// Whether the reader has the one entry 61 1 P 78.
-fn has_one_entry(reader: &BbtReader) -> bool {
-    match reader.entries.as_slice() {
-        [entry] => {
-            let is_key = entry.user.as_slice() == b"a".as_slice() && entry.seq == 1;
-            is_key && entry.kind == Kind::Value && entry.value.as_slice() == b"x".as_slice()
+/// Whether the reader's first entry is 61 1 P 78.
+fn begins_with_the_entry(reader: &BbtReader) -> bool {
+    let mut position = reader.cursor();
+    reader.first(&mut position);
+    match reader.entry(&position) {
+        Some(entry) => {
+            let is_key = entry.user == b"a".as_slice() && entry.seq == 1;
+            is_key && entry.kind == Kind::Value && entry.value == b"x".as_slice()
         }
-        _ => false,
+        None => false,
     }
+}
+
+/// What First, and Next after it, answer.
+fn first_and_next(reader: &BbtReader) -> (Reply, Reply) {
+    let mut position = reader.cursor();
+    let first = reader.first(&mut position);
+    (first, reader.next(&mut position))
 }
 
 #[test]
 fn a_file_of_one_entry(rt: HostRuntime) -> Result<(), Fail> {
     let mut folder = written(rt.alloc(), b"61 1 P 78\n", &[])?;
     match BbtReader::open(rt.alloc(), &mut folder, NAME) {
-        Ok(reader) => assert!(rt; has_one_entry(&reader)),
+        Ok(reader) => {
+            assert!(rt; begins_with_the_entry(&reader));
+            let (first, next) = first_and_next(&reader);
+            assert_eq!(rt; first, Reply::Shown);
+            assert_eq!(rt; next, Reply::None);
+        }
         Err(stop) => panic!(rt; "{stop:?}"),
     }
     Ok(())
@@ -87,7 +101,7 @@ fn a_file_of_one_entry(rt: HostRuntime) -> Result<(), Fail> {
 fn a_file_of_no_entry(rt: HostRuntime) -> Result<(), Fail> {
     let mut folder = written(rt.alloc(), b"", &[])?;
     match BbtReader::open(rt.alloc(), &mut folder, NAME) {
-        Ok(reader) => assert_eq!(rt; reader.entries.len(), 0),
+        Ok(reader) => assert_eq!(rt; first_and_next(&reader).0, Reply::None),
         Err(stop) => panic!(rt; "{stop:?}"),
     }
     Ok(())

@@ -9,7 +9,7 @@ ghost use Rattle.sst_bbt_spec.specs.BlockBased.{BlockBased, Opens};
 ghost use Rattle.sst_bbt_spec.specs.Way.{IndexedBlock};
 ghost use Rattle.sst_bbt_read.specs.Opening.{blocks_read};
 ghost use Rattle.sst_bbt_read.specs.declared.bbt_fault.BbtFault.{BbtFault};
-ghost use Rattle.sst_cli.specs.Behaviour.{Behaviour, Ends, IsFault, MayPrint, World, tells};
+ghost use Rattle.sst_cli.specs.Behaviour.{CallsFor, Ends, IsFault, MayPrint, Told, World, tells};
 ghost use Rattle.sst_cli.specs.CallsCommand.{Answered, AnsweredByWay, IsDamaged, calls_command};
 ghost use Rattle.sst_cli.specs.Command.{Command, behaviour, command_of};
 ghost use Rattle.sst_cli.specs.NoCommand.{no_command, usage_text};
@@ -51,8 +51,9 @@ pub fn a_told_world_has_one_outcome()
 /// What a run of any command comes to.
 ///
 /// `usage`: words that are no command: their whole text is printed. `usage_only`: no other words have that status.
-/// `whole`: where there was no fault, the whole text is printed. `never`: no run tries hash functions, for now. The statuses and
-/// the texts are this project's own.
+/// `whole`: where there was no fault, the whole text is printed. `device`: but for a fault, Device says that the folder
+/// tells that FILE isn't there, and that the input, where it is told, reads as calls. `never`: no run tries hash functions, for
+/// now. The statuses and the texts are this project's own.
 pub fn what_a_run_comes_to()
     ensures usage { (before after : World) (status : Status) → Ends no_command before after status
         → IsFault status ⊎ ((status ≡ ends_with.Usage) × (after.written ≡ append_known before.written usage_text)) }
@@ -61,6 +62,9 @@ pub fn what_a_run_comes_to()
     ensures whole { (command : Option Command) (before after : World) (status : Status) → Ends (behaviour command) before after status
         → status ≢ ends_with.Device → status ≢ ends_with.Memory
         → (text : List ℕ) × MayPrint (behaviour command) before.told text × (after.written ≡ append_known before.written text) }
+    ensures device { (command : Option Command) (told : Told) → CallsFor (behaviour command) told ends_with.Device
+        → (name : List ℕ) × (command ≡ Some (Command.Calls name)) × IsTrue (misses told.held name 0)
+        × ((text : List ℕ) → told.left ≡ Some text → (calls : List Call) × (read_calls text ≡ Ok calls)) }
     ensures never { (command : Option Command) (before after : World) (status : Status) → Ends (behaviour command) before after status
         → status ≢ ends_with.Exhausted }
 {}

@@ -1,9 +1,8 @@
-use Rattle.std.proofs.Common.{map, subst}
+use Rattle.std.proofs.Common.{map}
 use Rattle.std.specs.String.{string_bytes}
 use Rattle.sst_text.specs.CallText.{calls_text}
 use Rattle.sst_text.specs.EntryText.{lines_text}
-use Rattle.sst_cli.specs.Behaviour.{Ends, world}
-use Rattle.sst_cli.specs.Command.{Write, Calls, behaviour, command_of}
+use Rattle.sst_cli.specs.Command.{behaviour, command_of}
 use Rattle.sst_cli.proofs.CallRoundTrip.{read_calls-text}
 use Rattle.sst_cli.proofs.CallsRuns.{answered_as_list}
 use Rattle.sst_cli.proofs.CommandWords.{is_write, is_calls}

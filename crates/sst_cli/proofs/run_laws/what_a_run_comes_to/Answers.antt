@@ -12,5 +12,8 @@ returns-clause-usage_only c = lemma.usage_only
 pub returns-clause-never : goal.returns-clause-never
 returns-clause-never c = lemma.never
 
+pub returns-clause-device : goal.returns-clause-device
+returns-clause-device c = lemma.device
+
 pub returns-clause-whole : goal.returns-clause-whole
 returns-clause-whole c = λ command. whole_text (behaviour command)

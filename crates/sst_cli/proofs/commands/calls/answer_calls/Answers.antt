@@ -1,5 +1,6 @@
 use Rattle.std.proofs.Common.{refl, sym}
 use Rattle.sst_bbt_read.specs.TableBlocks.{blocks_of}
+use Rattle.sst_bbt_read.proofs.JoinedBlocks.{table-seqs}
 use Rattle.sst_num.specs.declared.stops.Stop.TheVariants as stop
 use Rattle.sst_cli.specs.CallsCommand.{answers_of}
 use Rattle.sst_cli.specs.OpenFile.{Damaged, Opened, on_file}
@@ -12,7 +13,7 @@ pub returns-in-Ok : goal.returns-in-Ok
 returns-in-Ok g c = λ left intake.
     let is = file_opens (g.F.Folder.held c.args.files.now) c.args.name.now c.open.result c.in-Ok.reader c.in-Ok.is (rw (sym c.reader.view_is) c.reader.invariant) c.open.ensures.absent c.in-Ok.ensures.told in
     let quiet = with_ok c.open.result c.in-Ok.reader stop.Device _ c.in-Ok.is c.open.ensures.folder.hides_none in
-    carries-printed (on_file c.args.name.now (answers_of c.args.calls.now)) (Opened (blocks_of c.in-Ok.reader)) _ _ c.print_all.result _ _ is
+    carries-printed (on_file c.args.name.now (answers_of c.args.calls.now)) (Opened (blocks_of c.in-Ok.reader)) _ _ c.print_all.result _ _ (table-seqs c.in-Ok.reader (rw (sym c.reader.view_is) c.reader.invariant), is)
     (c.open.ensures.folder.same_files, refl) c.open.ensures.folder.same_files (λ none. absurd none) (λ spared. tt) quiet refl c.print_all.ensures
 
 pub returns-in-Err-Damage : goal.returns-in-Err-Damage

@@ -1,4 +1,4 @@
-use Rattle.std.proofs.Common.{Ok, Err, refl, inl, inr}
+use Rattle.std.proofs.Common.{refl, inl, inr}
 use Rattle.sst_cli.specs.CallsCommand.{calls_command}
 use Rattle.sst_cli.specs.CallsCommand as found
 use Rattle.sst_cli.specs.declared.input.entries.InputStop.TheVariants as stop

@@ -8,7 +8,7 @@ use Rattle.sst_cli.specs.InputReading.{read_line}
 use Rattle.sst_cli.proofs.ReadLines.{passed_answer}
 use Rattle.sst_cli.proofs.ReadingOn.{next_inside, next_taken, next_refused, next_none, next_not_read}
 use Rattle.sst_cli.proofs.Taken.{near_read, near_on, near_no_line, near_passed, past_next}
-use Rattle.sst_cli.proofs.Adding.{read_line-limited, weight-falls, begun, holds_input}
+use Rattle.sst_cli.proofs.Adding.{read_line-limited, weight-falls, holds_input}
 use Rattle.sst_cli.proofs.input.entries.add_lines.Goals as goal
 
 pub returns-in_err-next_line-clause-refused : goal.returns-in_err-next_line-clause-refused
