@@ -12,7 +12,7 @@ use Rattle.sst_bbt_spec.specs.Rows.{rows_of}
 use Rattle.sst_bbt_write.specs.declared.bbt_writer.BbtWriter.{BbtWriter}
 use Rattle.sst_bbt_write.specs.Cut.{Blocks, entries_in}
 use Rattle.sst_bbt_write.specs.Keeps.{Keeps, with_entry}
-use Rattle.sst_bbt_write.specs.Written.{Fits, IsInLimits, index_rows, key_bytes, value_bytes}
+use Rattle.sst_bbt_write.specs.Written.{Fits, index_rows, key_bytes, value_bytes}
 use Rattle.sst_bbt_spec.proofs.RowsOf.{length-key_of}
 use Rattle.sst_bbt_write.proofs.Rows.{weight-append}
 use Rattle.sst_bbt_write.proofs.Added.{data_takes, data-more, last-more, has_room}

@@ -3,7 +3,7 @@
 -- and MetaIndexBuilder in table/meta_blocks.cc. The choices are this project's own. For now each separator is the last key
 -- of its block.
 -- Pinned by: forty_entries
-use Rattle.std.specs.Prelude.{◌≡◌, ℕ, ◌+◌, ◌^◌, ◌≤◌, List, [], ◌∷◌, ◌++◌, length, sum_by, All}
+use Rattle.std.specs.Prelude.{◌≡◌, ℕ, ◌+◌, ◌≤◌, List, [], ◌∷◌, ◌++◌, length, sum_by, All}
 use Rattle.std.specs.List.{flat_map}
 use Rattle.sst_num.specs.Spelling.{fixed, varint, handle_spelling}
 use Rattle.sst_num.specs.declared.block_handle.Handle.{Handle}
@@ -18,6 +18,7 @@ use Rattle.sst_meta.specs.Put.{ending_of}
 use Rattle.sst_bbt_spec.specs.Rows.{HasSeq, rows_of}
 use Rattle.sst_bbt_spec.specs.BlockBased.{BlockBased}
 use Rattle.sst_bbt_write.specs.Cut.{data_block, blocks_for}
+use Rattle.sst_bbt_write.specs.Limits.{key_limit, value_limit, weight_limit}
 use Rattle.sst_meta.specs.PropertyNames as property_names
 use Rattle.sst_meta.specs.declared.name.Name.TheVariants as name
 use Rattle.sst_bbt_write.specs.declared.bbt_options.BbtOptions.{BbtOptions}
@@ -26,8 +27,8 @@ use Rattle.sst_bbt_write.specs.declared.properties.Sizes.{Sizes}
 -- an entry is within the limits of each entry alone
 -- Pinned by: add.ok, a_list_reads_back, keys_and_values_at_their_limits, what_a_text_says_fits
 pub record IsInLimits (e : Entry) : Type 0 where
-  pub key : length e.user ≤ 65536
-  pub value : length e.value ≤ 16777216
+  pub key : length e.user ≤ key_limit
+  pub value : length e.value ≤ value_limit
   pub seq : HasSeq e
 
 -- a list that is written: it increases, each entry is within its limits, and so is their weight
@@ -36,7 +37,7 @@ pub record IsInLimits (e : Entry) : Type 0 where
 pub record Fits (entries : List Entry) : Type 0 where
   pub ordered : IsOrdered entries
   pub limits : All IsInLimits entries
-  pub light : weight entries ≤ 2 ^ 28
+  pub light : weight entries ≤ weight_limit
 
 -- a stored block takes its bytes and a trailer of five
 -- RocksDB: block_based_table_reader.h, kBlockTrailerSize
