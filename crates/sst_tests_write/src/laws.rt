@@ -1,0 +1,29 @@
+//! The laws take no value and answer none: that they can be called is all that a test can show.
+use sst_bbt_read::{
+    a_fault_is_shown, a_file_opens_to_its_blocks, a_file_that_opens_shows_no_fault,
+};
+use sst_bbt_write::{a_list_is_cut_where_blocks_are_full, written_file_stands_for_its_list};
+use sst_cli::{
+    a_call_list_reads_back, a_list_reads_back, a_written_file_reads_back, what_a_text_says_fits,
+};
+use sst_text::{
+    a_call_line_is_that_of_its_call, a_call_line_reads_back, an_entry_line_is_that_of_its_entry,
+    an_entry_line_reads_back,
+};
+
+#[test]
+fn laws(_rt: HostRuntime) {
+    written_file_stands_for_its_list();
+    a_list_is_cut_where_blocks_are_full();
+    an_entry_line_reads_back();
+    a_list_reads_back();
+    a_call_line_reads_back();
+    an_entry_line_is_that_of_its_entry();
+    a_call_line_is_that_of_its_call();
+    a_call_list_reads_back();
+    what_a_text_says_fits();
+    a_file_opens_to_its_blocks();
+    a_written_file_reads_back();
+    a_fault_is_shown();
+    a_file_that_opens_shows_no_fault();
+}
