@@ -22,9 +22,6 @@ use sst_num::{Bytes, Stop};
 use std::alloc::Global;
 use std::marker::Model;
 
-#[cfg(test)]
-mod way_tests;
-
 /// The bytes of the footer of each block-based file that is read.
 ///
 /// RocksDB: `Footer::kMaxEncodedLength` in table/format.h.
