@@ -22,9 +22,6 @@ use sst_num::{Bytes, Stop};
 use std::alloc::Global;
 use std::marker::Model;
 
-#[cfg(test)]
-mod way_tests;
-
 /// A data block of a table that is open: its separator, and where its entries end.
 #[derive(Debug, Drop)]
 pub struct BlockEnd {

@@ -27,9 +27,6 @@ use sst_num::{Handle, Memory, Refused, put_handle};
 use std::alloc::Global;
 use std::mem;
 
-#[cfg(test)]
-mod tests;
-
 /// A restart stands at each so many entries of a data block.
 const RESTART_INTERVAL: u32 = 16;
 

@@ -117,24 +117,14 @@
 //! ```
 #![tactic(auto)]
 
-#[cfg(test)]
-mod call_tests;
 mod command;
 mod commands;
 mod input;
-#[cfg(test)]
-mod law_tests;
 mod laws;
-#[cfg(test)]
-mod opening_tests;
 mod output;
 mod program;
-#[cfg(test)]
-mod program_tests;
 mod run_laws;
 mod status;
-#[cfg(test)]
-mod text_tests;
 
 pub use laws::{
     a_call_list_reads_back, a_list_reads_back, a_written_file_reads_back, what_a_text_says_fits,

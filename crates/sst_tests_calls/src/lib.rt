@@ -12,6 +12,7 @@
 //! - [`separators`]: answers by the index, where it isn't the list's.
 //! - [`counted`]: answers at every target, as a plain count over the list gives them.
 //! - [`other_names`]: files with names and properties that a reader passes by.
+//! - [`lacking`]: the line of a call that a format lacks.
 //! - [`outside`]: inputs that are refused, a file that isn't there, and calls outside that fail.
 #![tactic(auto)]
 
@@ -19,6 +20,8 @@
 mod counted;
 #[cfg(test)]
 mod foreign;
+#[cfg(test)]
+mod lacking;
 #[cfg(test)]
 mod lists;
 #[cfg(test)]

@@ -900,12 +900,18 @@ static FIRST_OF_TWO: [(&[&str], &str); 30] = [
     ),
 ];
 
-#[test]
-fn damaged_files(rt: HostRuntime) -> Result<(), Fail> {
-    for (pieces, damage) in ONE.iter().chain(FIRST_OF_TWO.iter()) {
-        let mut file = Vec::new(rt.alloc());
-        put_hex(rt.alloc(), &mut file, pieces)?;
-        assert_refused(&rt, rt.alloc(), &file, damage)?;
+/// Asserts that each of these files is refused with its damage.
+fn assert_damaged(rt: &impl Abort, alloc: Global, rows: &[(&[&str], &str)]) -> Result<(), Fail> {
+    for (pieces, damage) in rows {
+        let mut file = Vec::new(alloc);
+        put_hex(alloc, &mut file, pieces)?;
+        assert_refused(rt, alloc, &file, damage)?;
     }
     Ok(())
+}
+
+#[test]
+fn damaged_files(rt: HostRuntime) -> Result<(), Fail> {
+    assert_damaged(&rt, rt.alloc(), &ONE)?;
+    assert_damaged(&rt, rt.alloc(), &FIRST_OF_TWO)
 }

@@ -109,16 +109,12 @@ fn put_named(alloc: Global, file: &mut Vec<u8>, block: &[u8]) -> Result<(), Fail
 }
 
 /// The file with these properties.
-pub fn file_with(alloc: Global, pairs: &[(&str, &str)]) -> Result<Vec<u8>, Fail> {
+fn file_with(alloc: Global, pairs: &[(&str, &str)]) -> Result<Vec<u8>, Fail> {
     file_with_index(alloc, &[INDEX], pairs)
 }
 
 /// The same with other bytes for the index and its trailer.
-pub fn file_with_index(
-    alloc: Global,
-    index: &[&str],
-    pairs: &[(&str, &str)],
-) -> Result<Vec<u8>, Fail> {
+fn file_with_index(alloc: Global, index: &[&str], pairs: &[(&str, &str)]) -> Result<Vec<u8>, Fail> {
     let mut file = Vec::new(alloc);
     put_hex(alloc, &mut file, &[DATA])?;
     put_hex(alloc, &mut file, index)?;
@@ -128,7 +124,7 @@ pub fn file_with_index(
 }
 
 /// The file whose block of properties has these bytes.
-pub fn file_with_block(alloc: Global, pieces: &[&str]) -> Result<Vec<u8>, Fail> {
+fn file_with_block(alloc: Global, pieces: &[&str]) -> Result<Vec<u8>, Fail> {
     let mut file = Vec::new(alloc);
     put_hex(alloc, &mut file, &[DATA, INDEX])?;
     let mut block = Vec::new(alloc);
@@ -138,7 +134,7 @@ pub fn file_with_block(alloc: Global, pieces: &[&str]) -> Result<Vec<u8>, Fail> 
 }
 
 /// The file whose metaindex has these names. A block without properties, of 8 bytes, stands at 53.
-pub fn file_with_names(alloc: Global, pairs: &[(&str, &str)]) -> Result<Vec<u8>, Fail> {
+fn file_with_names(alloc: Global, pairs: &[(&str, &str)]) -> Result<Vec<u8>, Fail> {
     let mut file = Vec::new(alloc);
     put_hex(alloc, &mut file, &[DATA, INDEX])?;
     put_frame(&mut file, &names_block(alloc, &[])?)?;
@@ -147,7 +143,7 @@ pub fn file_with_names(alloc: Global, pairs: &[(&str, &str)]) -> Result<Vec<u8>,
 }
 
 /// A file of the line `61 1 P 78`, by what it says of itself.
-#[derive(Clone, Copy, Debug)]
+#[derive(Clone, Copy)]
 pub enum Named {
     /// With these properties.
     Properties(&'static [(&'static str, &'static str)]),

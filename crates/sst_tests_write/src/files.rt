@@ -29,6 +29,7 @@ struct Written {
     behind: Behind,
 }
 
+/// Lists of one entry, of none, and of three versions of one key.
 static FILES: [Written; 5] = [
     // The index block stands at 26, and ends with its trailer at 53; the properties of 254 bytes at 53, the metaindex of 32 at
     // 312, and the footer at 349.
@@ -230,7 +231,7 @@ static ROWS: [&str; 33] = [
 ];
 
 /// How many rows there are, what follows them up to the end of the index, and what stands after that.
-static RESTARTS: [(usize, &[&str], Behind, &str); 2] = [
+static RESTARTS: [(u8, &[&str], Behind, &str); 2] = [
     // Restart points at 0 and 209: the first row has 14 bytes, and the 15 after it have 13. The index block is at 240: one row,
     // with the last key and the handle of the data block (0, 235). The properties of 256 bytes at 269, since two numbers have
     // two bytes, and the metaindex of 33 at 530.
@@ -296,9 +297,9 @@ pub(crate) fn numbered_lines(alloc: Global, count: u8) -> Result<Vec<u8>, Fail> 
 #[test]
 fn second_and_third_restarts(rt: HostRuntime) -> Result<(), Fail> {
     for (count, end, behind, text) in &RESTARTS {
-        let ran = written(rt.alloc(), &numbered_lines(rt.alloc(), *count as u8)?)?;
+        let ran = written(rt.alloc(), &numbered_lines(rt.alloc(), *count)?)?;
         let mut file = Vec::new(rt.alloc());
-        if let Some(rows) = ROWS.get(..*count) {
+        if let Some(rows) = ROWS.get(..usize::from(*count)) {
             put_hex(rt.alloc(), &mut file, rows)?;
         }
         put_hex(rt.alloc(), &mut file, end)?;

@@ -18,6 +18,7 @@
 //! - [`weight`]: the weight of a list, on the writer alone.
 //! - [`outside`]: calls outside that fail.
 //! - [`words`]: words that are no command.
+//! - [`laws`]: the laws of the text, of the tables and of the program, each called once.
 //! - [`statuses`]: the number of each status.
 #![tactic(auto)]
 
@@ -25,6 +26,8 @@
 mod block_option;
 #[cfg(test)]
 mod files;
+#[cfg(test)]
+mod laws;
 #[cfg(test)]
 mod limits;
 #[cfg(test)]
