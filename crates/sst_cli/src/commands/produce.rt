@@ -1,7 +1,7 @@
 //! A file made of an input: OUT is begun, the lines are added to a writer, and the bytes are added to OUT.
 //!
 //! For now the whole file is made in memory first.
-ghost use Rattle.std.specs.Prelude.{◌≡◌, ◌⊎◌, ℕ, ◌≤◌, List, [], Option, Some, Ok, Err, IfOk};
+ghost use Rattle.std.specs.Prelude.{◌≡◌, ◌⊎◌, ℕ, List, Some, Err, IfOk};
 ghost use Rattle.sst_device.specs.Faults.{Rose};
 ghost use Rattle.sst_device.specs.Folder.{put_file};
 ghost use Rattle.sst_cli.specs.InputReading.{read_input};

@@ -2,7 +2,7 @@
 //!
 //! Of the input no more than one line and the piece around it is held at a time. The line's number is one
 //! more than the count of the calls before it.
-ghost use Rattle.std.specs.Prelude.{◌≡◌, ◌≢◌, ℕ, ◌+◌, ◌<◌, ◌≤◌, ◌^◌, List, [], length, Some, Ok, Err, IfOk, OnOk};
+ghost use Rattle.std.specs.Prelude.{◌≡◌, ◌≢◌, ℕ, ◌+◌, ◌<◌, ◌≤◌, List, [], length, Some, Ok, Err, IfOk, OnOk};
 ghost use Rattle.sst_key.specs.declared.calls.Call.{Call};
 ghost use Rattle.sst_text.specs.CallText.{IsInLimits, AreInLimits};
 ghost use Rattle.sst_cli.specs.InputReading as reading;
