@@ -1,11 +1,10 @@
 use Rattle.std.proofs.Common.{None}
-use Rattle.sst_block.proofs.Walking.{Gives-reads}
 use Rattle.sst_tests_blocks.proofs.blocks.assert_rows.Goals as goal
 
 pub start-requires : goal.start-requires
-start-requires g c = Gives-reads _ _ _ c.in-Ok.ensures.exact
+start-requires g c = let found = c.in-Ok.ensures.accepts in (found.0, found.1)
 
-pub assert_walk-requires : goal.walks-requires
+pub assert_walk-requires : goal.assert_walk-requires
 assert_walk-requires g c =
-    let read = Gives-reads c.args.form c.args.block.now _ c.in-Ok.ensures.exact in
-    (read.0, None, c.start.ensures read.0 read.1)
+    let found = c.in-Ok.ensures.accepts in
+    (found.0, None, c.start.ensures found.0 found.1)
