@@ -51,7 +51,7 @@ pub record EndsIn (file : List ℕ) (end kind version : ℕ) (between : List ℕ
 
 -- the version is one that is read
 -- Own, for now.
--- Pinned by: a_footer_is_read, footers_that_are_faults
+-- Pinned by: a_footer_is_read, footers_that_are_read
 abbrev pub IsBuilt : ℕ → Type 0
 IsBuilt version = (2 ≤ version) × (version ≤ 4)
 

@@ -2,7 +2,7 @@
 -- RocksDB: table/format.h (Footer), table/format.cc (FooterBuilder::Build), and the magic numbers in
 -- table/block_based/block_based_table_builder.cc, table/plain/plain_table_builder.cc and
 -- table/cuckoo/cuckoo_table_builder.cc.
--- Pinned by: a_footer_reads_back, a_block_based_footer
+-- Pinned by: a_footer_reads_back, footers_that_are_put
 use Rattle.std.specs.Prelude.{◌≡◌, ℕ, ◌-◌, ◌^◌, ◌<◌, ◌≤◌, Bool, true, false, if◌then◌else◌, List, ◌∷◌, ◌++◌, length, replicate}
 use Rattle.sst_num.specs.Spelling.{fixed, handle_spelling}
 use Rattle.sst_num.specs.declared.block_handle.Handle.{Handle}
@@ -11,7 +11,7 @@ use Rattle.sst_key.specs.declared.calls.Format.TheVariants.{Block, Plain, Cuckoo
 use Rattle.sst_meta.specs.declared.footer.Footer.{Footer}
 
 -- the number that ends each block-based file, and the one of version 0
--- Pinned by: a_block_based_footer, other_tables
+-- Pinned by: footers_that_are_put, footers_that_are_read
 abbrev pub block_based_magic : ℕ
 block_based_magic = 0x88e241b785f4cff7
 
@@ -19,7 +19,7 @@ abbrev pub legacy_block_based_magic : ℕ
 legacy_block_based_magic = 0xdb4775248b80fb57
 
 -- the number that ends each plain table, and the one of version 0
--- Pinned by: a_legacy_plain_footer, other_tables
+-- Pinned by: footers_that_are_put, footers_that_are_read
 abbrev pub plain_magic : ℕ
 plain_magic = 0x8242229663bf9564
 
@@ -27,7 +27,7 @@ abbrev pub legacy_plain_magic : ℕ
 legacy_plain_magic = 0x4f3418eb7a8f13b8
 
 -- the number that ends each cuckoo table
--- Pinned by: a_legacy_plain_footer, other_tables
+-- Pinned by: footers_that_are_put, footers_that_are_read
 abbrev pub cuckoo_magic : ℕ
 cuckoo_magic = 0x926789d0c5f17873
 
@@ -47,12 +47,12 @@ footer_length true = 48
 footer_length false = 53
 
 -- the metaindex handle and the index handle
--- Pinned by: a_block_based_footer
+-- Pinned by: footers_that_are_put
 abbrev pub two_handles : Handle → Handle → List ℕ
 two_handles metaindex index = handle_spelling metaindex ++ handle_spelling index
 
 -- the zeros that fill 40 bytes up behind them
--- Pinned by: a_block_based_footer
+-- Pinned by: footers_that_are_put
 abbrev pub handle_zeros : Handle → Handle → List ℕ
 handle_zeros metaindex index = replicate (40 - length (two_handles metaindex index)) 0
 

@@ -13,19 +13,19 @@ use Rattle.sst_meta.specs.declared.meta_fault.MetaFault.TheVariants.{NotTable, V
 
 -- the last n bytes, or all where there are fewer
 -- Own.
--- Pinned by: a_footer_is_read, no_table
+-- Pinned by: a_footer_is_read, footers_that_are_read
 abbrev pub last_bytes : ℕ → List ℕ → List ℕ
 last_bytes n bytes = drop (length bytes - n) bytes
 
 -- the number in the last eight bytes
 -- Own.
--- Pinned by: a_footer_is_read, no_table
+-- Pinned by: a_footer_is_read, footers_that_are_read
 unfoldable pub number_at_end : List ℕ → Option ℕ
 number_at_end tail = if nat_lt (length tail) 8 then None else fixed_at 8 (last_bytes 8 tail)
 
 -- The format of a file with this magic number and so many bytes at least, and whether its footer is legacy. Legacy
 -- footers have 48 bytes, the others 53. First of tables that aren't block-based, then of all.
--- Pinned by: footers, a_legacy_plain_footer
+-- Pinned by: footers_that_are_read
 abbrev pub other_kind_of : ℕ → ℕ → Option (Format × Bool)
 other_kind_of magic size =
     if magic == plain_magic && nat_le 53 size then Some (Plain, false)
@@ -40,18 +40,18 @@ kind_of magic size =
     else other_kind_of magic size
 
 -- the same where there is a number
--- Pinned by: footers, a_legacy_plain_footer
+-- Pinned by: footers_that_are_read
 abbrev pub kind_by : ℕ → Option ℕ → Option (Format × Bool)
 kind_by size None = None
 kind_by size (Some magic) = kind_of magic size
 
 -- the kind of file that ends in these bytes
--- Pinned by: footers, a_legacy_plain_footer
+-- Pinned by: footers_that_are_read
 unfoldable pub kind_at : List ℕ → Option (Format × Bool)
 kind_at tail = kind_by (length tail) (number_at_end tail)
 
 -- its format
--- Pinned by: a_block_based_footer, other_tables
+-- Pinned by: footers_that_are_read
 abbrev pub format_at : List ℕ → Option Format
 format_at tail = option_map (λ (kind : Format × Bool). kind.0) (kind_at tail)
 
@@ -74,7 +74,7 @@ handles_read bytes = handles_after bytes (handle_at bytes)
 
 -- the footer with the two handles
 -- Own.
--- Pinned by: a_block_based_footer, footers_that_are_faults
+-- Pinned by: footers_that_are_read
 abbrev pub as_footer : Format → Bool → ℕ → ℕ → Option (Handle × Handle) → Result Footer MetaFault
 as_footer format legacy version checksum None = Err BadFooter
 as_footer format legacy version checksum (Some handles) =
@@ -82,7 +82,7 @@ as_footer format legacy version checksum (Some handles) =
 
 -- of block-based files the versions 2 to 4 are taken, of the others any
 -- Own.
--- Pinned by: footers_that_are_faults, footers
+-- Pinned by: footers_that_are_read
 abbrev pub takes_version : Format → ℕ → Bool
 takes_version Block version = nat_le 2 version && nat_le version 4
 takes_version Plain version = true
@@ -90,14 +90,14 @@ takes_version Cuckoo version = true
 
 -- of block-based files the checksum type 1 is taken, which is masked CRC32C, of the others any
 -- Own.
--- Pinned by: footers_that_are_faults, footers
+-- Pinned by: footers_that_are_read
 abbrev pub takes_checksum : Format → ℕ → Bool
 takes_checksum Block checksum = checksum == 1
 takes_checksum Plain checksum = true
 takes_checksum Cuckoo checksum = true
 
 -- the version, the checksum type and the handles, in this order
--- Pinned by: footers_that_are_faults, the_first_fault
+-- Pinned by: footers_that_are_read, the_first_fault
 abbrev pub fields_read : Format → Bool → ℕ → ℕ → List ℕ → Result Footer MetaFault
 fields_read format legacy version checksum between =
     if takes_version format version
@@ -106,26 +106,26 @@ fields_read format legacy version checksum between =
 
 -- a footer of 53 bytes: the checksum type, 40 bytes with the handles, the version, the magic number. One whose version
 -- isn't a number of bytes is none.
--- Pinned by: a_footer_is_read, a_block_based_footer
+-- Pinned by: a_footer_is_read, footers_that_are_read
 abbrev pub by_version : Format → ℕ → List ℕ → Option ℕ → Result Footer MetaFault
 by_version format checksum between None = Err NotTable
 by_version format checksum between (Some version) = fields_read format false version checksum between
 
 -- the same by all 53 bytes
--- Pinned by: a_footer_is_read, a_block_based_footer
+-- Pinned by: a_footer_is_read, footers_that_are_read
 abbrev pub later_read : Format → List ℕ → Result Footer MetaFault
 later_read format [] = Err NotTable
 later_read format (checksum ∷ rest) = by_version format checksum (take 40 rest) (fixed_at 4 (drop 40 rest))
 
 -- the checksum type of a file with a legacy footer, which doesn't say it
--- Pinned by: a_legacy_plain_footer
+-- Pinned by: footers_that_are_read
 abbrev pub legacy_checksum : Format → ℕ
 legacy_checksum Block = 1
 legacy_checksum Plain = 0
 legacy_checksum Cuckoo = 0
 
 -- a legacy footer of 48 bytes: 40 bytes with the handles, the magic number; its version is 0
--- Pinned by: a_legacy_plain_footer
+-- Pinned by: footers_that_are_read
 abbrev pub legacy_read : Format → List ℕ → Result Footer MetaFault
 legacy_read format bytes = fields_read format true 0 (legacy_checksum format) (take 40 bytes)
 
