@@ -13,6 +13,7 @@ ghost use Rattle.sst_bbt_write.specs.After.{After, HasFailed, IsInUse};
 ghost use Rattle.sst_bbt_write.specs.Reasons.{reason, is_after};
 ghost use Rattle.sst_bbt_spec.specs.Rows.{rows_of};
 ghost use Rattle.sst_bbt_write.specs.Cut.{Blocks, is_full};
+ghost use Rattle.sst_bbt_write.specs.Limits.{weight_limit};
 ghost use Rattle.sst_bbt_write.specs.Keeps.{Keeps, KeepsSome, ended_now, ended_last, with_room, with_entry};
 ghost use Rattle.sst_bbt_write.specs.Written.{Fits, Written, end_part, sizes_of};
 ghost use Rattle.sst_bbt_write.specs.declared.bbt_options.BbtOptions.{BbtOptions};
@@ -339,7 +340,7 @@ fn fault_of(
 ) -> Option<WriteFault>
     requires last { 0 < count → 8 ≤ length last.now }
     requires key { 8 ≤ length key.now }
-    requires light { weight ≤ 2 ^ 28 }
+    requires light { weight ≤ weight_limit }
     ensures { (entries : List Entry) → count ≡ length entries → weight ≡ weight_of entries
         → last.now ≡ last_key [] (rows_of entries) → key.now ≡ key_of (entry_of e.now)
         → result ≡ reason entries (entry_of e.now) }

@@ -19,7 +19,7 @@ abbrev pub legacy_block_based_magic : ℕ
 legacy_block_based_magic = 0xdb4775248b80fb57
 
 -- the number that ends each plain table, and the one of version 0
--- Pinned by: footers_that_are_read
+-- Pinned by: footers_that_are_put, footers_that_are_read
 abbrev pub plain_magic : ℕ
 plain_magic = 0x8242229663bf9564
 
@@ -27,7 +27,7 @@ abbrev pub legacy_plain_magic : ℕ
 legacy_plain_magic = 0x4f3418eb7a8f13b8
 
 -- the number that ends each cuckoo table
--- Pinned by: footers_that_are_read
+-- Pinned by: footers_that_are_put, footers_that_are_read
 abbrev pub cuckoo_magic : ℕ
 cuckoo_magic = 0x926789d0c5f17873
 

@@ -51,7 +51,7 @@ unfoldable pub kind_at : List ℕ → Option (Format × Bool)
 kind_at tail = kind_by (length tail) (number_at_end tail)
 
 -- its format
--- Pinned by: footers_that_are_put, footers_that_are_read
+-- Pinned by: footers_that_are_read
 abbrev pub format_at : List ℕ → Option Format
 format_at tail = option_map (λ (kind : Format × Bool). kind.0) (kind_at tail)
 
@@ -74,7 +74,7 @@ handles_read bytes = handles_after bytes (handle_at bytes)
 
 -- the footer with the two handles
 -- Own.
--- Pinned by: footers_that_are_put, footers_that_are_read
+-- Pinned by: footers_that_are_read
 abbrev pub as_footer : Format → Bool → ℕ → ℕ → Option (Handle × Handle) → Result Footer MetaFault
 as_footer format legacy version checksum None = Err BadFooter
 as_footer format legacy version checksum (Some handles) =
@@ -106,13 +106,13 @@ fields_read format legacy version checksum between =
 
 -- a footer of 53 bytes: the checksum type, 40 bytes with the handles, the version, the magic number. One whose version
 -- isn't a number of bytes is none.
--- Pinned by: a_footer_is_read, footers_that_are_put
+-- Pinned by: a_footer_is_read, footers_that_are_read
 abbrev pub by_version : Format → ℕ → List ℕ → Option ℕ → Result Footer MetaFault
 by_version format checksum between None = Err NotTable
 by_version format checksum between (Some version) = fields_read format false version checksum between
 
 -- the same by all 53 bytes
--- Pinned by: a_footer_is_read, footers_that_are_put
+-- Pinned by: a_footer_is_read, footers_that_are_read
 abbrev pub later_read : Format → List ℕ → Result Footer MetaFault
 later_read format [] = Err NotTable
 later_read format (checksum ∷ rest) = by_version format checksum (take 40 rest) (fixed_at 4 (drop 40 rest))

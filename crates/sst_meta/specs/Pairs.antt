@@ -26,7 +26,7 @@ abbrev pub Has : List Row → Row → Type 0
 Has rows row = (i : ℕ) × (slice_get rows i ≡ Some row)
 
 -- the value of the first row with this name
--- Pinned by: a_name_has_one_value, two_properties
+-- Pinned by: a_name_has_one_value, two_properties_are_read
 abbrev pub value_of : List ℕ → List Row → Option (List ℕ)
 value_of name [] = None
 value_of name (row ∷ rows) = if bytes_eq row.key name then Some row.value else value_of name rows
