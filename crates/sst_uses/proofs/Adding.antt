@@ -1,5 +1,5 @@
 -- How far the entries of a list were added to a writer.
-use Rattle.std.proofs.Common.{◌≡◌, ℕ, ◌+◌, List, [], ◌∷◌, ◌++◌, take, drop, Option, Some, slice_get, Result, Err, sym, ap, ◌∙◌}
+use Rattle.std.proofs.Common.{◌≡◌, ℕ, ◌+◌, List, [], ◌∷◌, ◌++◌, take, drop, Some, slice_get, Result, Err, sym, ap, ◌∙◌}
 use Rattle.std.proofs.lemmas.List.{take-append-drop, append_assoc}
 use Rattle.sst_num.specs.declared.stops.Refused.{Refused}
 use Rattle.sst_num.specs.declared.stops.Refused.TheVariants.{Cause}

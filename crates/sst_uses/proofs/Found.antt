@@ -1,5 +1,5 @@
 -- What an open table answers, where its file stands for a list.
-use Rattle.std.proofs.Common.{◌≡◌, ℕ, suc, ◌+◌, ◌-◌, ◌<◌, ◌≤◌, nat_lt, List, [], ◌∷◌, ◌++◌, length, take, Option, None, Some, option_and_then, slice_get, All, Result, Ok, Err, refl, sym, ap, ◌∙◌, subst, arith}
+use Rattle.std.proofs.Common.{◌≡◌, ℕ, ◌-◌, List, Option, option_and_then, slice_get, All, Result, Err, sym, ap, ◌∙◌, subst}
 use Rattle.sst_num.specs.declared.stops.Stop.{Stop}
 use Rattle.sst_num.specs.declared.stops.Stop.TheVariants.{Damage, Device, Memory}
 use Rattle.sst_key.specs.declared.entries.Entry.{Entry}

@@ -1,6 +1,5 @@
 //! A table opened, asked for a key, and walked.
 ghost use Rattle.std.specs.Prelude.{◌≡◌, ℕ, List, Option, Some, Err, IfOk};
-ghost use Rattle.std.specs.Option.{option_map};
 ghost use Rattle.sst_device.specs.Folder.{file_of};
 ghost use Rattle.sst_key.specs.Entry.{entry_of};
 ghost use Rattle.sst_key.specs.declared.entries.Entry.{Entry as entry_type};

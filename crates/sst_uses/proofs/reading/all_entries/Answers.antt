@@ -1,4 +1,4 @@
-use Rattle.std.proofs.Common.{◌≡◌, ◌∙◌}
+use Rattle.std.proofs.Common.{◌∙◌}
 use Rattle.sst_uses.proofs.Found.{no_damage}
 use Rattle.sst_uses.proofs.reading.all_entries.Goals as goal
 

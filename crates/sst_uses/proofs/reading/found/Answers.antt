@@ -1,4 +1,4 @@
-use Rattle.std.proofs.Common.{◌≡◌, Option, None, Some, sym, ap, ◌∙◌}
+use Rattle.std.proofs.Common.{None, Some, sym, ap, ◌∙◌}
 use Rattle.sst_bbt_read.specs.Cursors.{lent}
 use Rattle.sst_uses.proofs.Found.{got}
 use Rattle.sst_uses.proofs.reading.found.Goals as goal

@@ -1,4 +1,3 @@
-use Rattle.std.proofs.Common.{◌≡◌}
 use Rattle.sst_uses.proofs.Found.{no_damage}
 use Rattle.sst_uses.proofs.reading.look_up.Goals as goal
 

@@ -1,4 +1,4 @@
-use Rattle.std.proofs.Common.{ℕ, ◌-◌, length}
+use Rattle.std.proofs.Common.{◌-◌, length}
 use Rattle.sst_bbt_read.specs.Cursors.{Belongs}
 use Rattle.sst_uses.specs.Uses.{IsCopied}
 use Rattle.sst_uses.proofs.reading.walk.Given as goal

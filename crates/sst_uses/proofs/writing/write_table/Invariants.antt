@@ -1,4 +1,4 @@
-use Rattle.std.proofs.Common.{ℕ, ◌-◌, ◌≤◌, length, take}
+use Rattle.std.proofs.Common.{◌-◌, ◌≤◌, length, take}
 use Rattle.sst_bbt_write.specs.After.{After}
 use Rattle.sst_uses.proofs.writing.write_table.Given as goal
 
