@@ -1,17 +1,15 @@
 -- The line of a call reads back as the call, and is short.
-use Rattle.std.proofs.Common.{◌≡◌, ℕ, ◌+◌, ◌^◌, ◌<◌, ◌≤◌, List, [], ◌∷◌, ◌++◌, length, codes, Some, option_and_then, Ok, refl, sym, ap, ◌∙◌, append_assoc, length-append, arith}
+use Rattle.std.proofs.Common.{◌≡◌, ℕ, ◌^◌, ◌<◌, ◌≤◌, List, [], ◌∷◌, ◌++◌, length, codes, Some, option_and_then, refl, ap, ◌∙◌, append_assoc, arith}
 use Rattle.std.specs.Fmt.{decimal}
 use Rattle.std.proofs.lemmas.Bool.{le-leb}
 use Rattle.std.proofs.lemmas.Fmt.{length-decimal-le}
-use Rattle.std.proofs.lemmas.List.{append-nil}
-use Rattle.std.proofs.lemmas.List.Elements.{All-head, All-tail}
 use Rattle.hex.specs.Hex.{IsBytes}
 use Rattle.sst_key.specs.declared.calls.Target.{Target}
 use Rattle.sst_key.specs.declared.calls.Call.{Call}
 use Rattle.sst_key.specs.declared.calls.Call.TheVariants.{Get, First, Last, Seek, SeekForPrev, Next, Prev}
 use Rattle.sst_text.specs.Texts.{cut, bytes_field, seq_field}
 use Rattle.sst_text.specs.EntryText.{hex_text}
-use Rattle.sst_text.specs.CallText.{target_of_fields, target_of, call_to, call_of_line, call_line, ended_call, calls_text, IsTargetInLimits, IsInLimits, AreInLimits, IsOfBytes, AreOfBytes}
+use Rattle.sst_text.specs.CallText.{target_of_fields, target_of, call_to, call_of_line, call_line, ended_call, IsTargetInLimits, IsInLimits, IsOfBytes}
 use Rattle.sst_text.proofs.FieldBytes.{IsStop, hex_text-avoids, decimal-avoids, cut-front}
 use Rattle.sst_text.proofs.LineRoundTrip.{bytes_field-hex_text, seq_field-decimal}
 use Rattle.sst_text.proofs.LineEnds.{blank-avoids, length-hex_text, length-blank}
