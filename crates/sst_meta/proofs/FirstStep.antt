@@ -8,7 +8,8 @@ use Rattle.sst_block.specs.Block.{Row}
 use Rattle.sst_device.specs.Framed.{Framed}
 use Rattle.sst_device.proofs.Choices.{by_test}
 use Rattle.sst_meta.specs.Blocks.{then_open, block_at}
-use Rattle.sst_meta.specs.BlockFooter.{IsBytes, EndsIn, FooterLeads, footer_start}
+use Rattle.hex.specs.Hex.{IsBytes}
+use Rattle.sst_meta.specs.BlockFooter.{EndsIn, FooterLeads, footer_start}
 use Rattle.sst_meta.specs.FooterReading.{last_bytes, handles_read}
 use Rattle.sst_meta.specs.LoadReading.{end_read, handle_in, comparator_fault, index_type_fault, global_fault, external_fault, flag_fault, props_fault, sound_props, props_in, props_at, props_read, names_read, load_read}
 use Rattle.sst_meta.specs.LoadSteps.{LoadStep, file_length, magic_number, kind_of_table, format_version, checksum_type, footer_handles, metaindex_frame, metaindex_rows, no_tombstones, props_handle, props_frame, props_rows, key_order, index_type, global_sequence, external_version, user_key_flag, delta_flag, form_is_read, number_of, FailsAt, FailsFirst}

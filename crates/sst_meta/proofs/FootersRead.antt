@@ -17,7 +17,8 @@ use Rattle.sst_meta.proofs.FileEnds.{last_bytes-joined, last_bytes-twice, last_b
 use Rattle.sst_meta.proofs.FooterKinds.{kind_test, IsKind, known, unknown, kind-is}
 use Rattle.sst_meta.proofs.FooterReads.{later-reads}
 use Rattle.sst_meta.specs.LoadReading.{by_format, end_read}
-use Rattle.sst_meta.specs.BlockFooter.{EndsWith, IsTable, IsOtherTable, EndsIn, IsBytes}
+use Rattle.hex.specs.Hex.{IsBytes}
+use Rattle.sst_meta.specs.BlockFooter.{EndsWith, IsTable, IsOtherTable, EndsIn}
 
 pub are_bytes-drop : (n : ℕ) (bytes : List ℕ) → IsBytes bytes → (i : ℕ) → get_or (drop n bytes) i 0 < 256
 are_bytes-drop n bytes are i = rw (get_or-drop n bytes i 0) (are (n + i))

@@ -5,7 +5,8 @@ use Rattle.sst_num.specs.Spelling.{fixed, varint}
 use Rattle.sst_num.specs.declared.block_handle.Handle.{Handle}
 use Rattle.sst_block.specs.declared.row_form.RowForm.TheVariants.{Names}
 use Rattle.sst_block.specs.Block.{Row}
-use Rattle.sst_meta.specs.BlockFooter.{IsBytes, IsOtherTable, FooterLeads, footer_start}
+use Rattle.hex.specs.Hex.{IsBytes}
+use Rattle.sst_meta.specs.BlockFooter.{IsOtherTable, FooterLeads, footer_start}
 use Rattle.sst_meta.specs.Footer.{legacy_block_based_magic, plain_magic, legacy_plain_magic, cuckoo_magic}
 use Rattle.sst_meta.specs.FooterReading.{last_bytes}
 use Rattle.sst_meta.specs.LoadReading.{fixed_in, varint_in, load_read}

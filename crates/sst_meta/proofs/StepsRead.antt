@@ -19,7 +19,8 @@ use Rattle.sst_device.specs.declared.frame.FrameFault.{FrameFault}
 use Rattle.sst_device.proofs.Choices.{by_test}
 use Rattle.sst_device.proofs.FramesRead.{frame_read-framed, frame_read-fault}
 use Rattle.sst_block.proofs.FirstFaults.{first-read}
-use Rattle.sst_meta.specs.BlockFooter.{IsBytes, EndsWith, EndsIn, IsTable, IsOtherTable, IsBuilt}
+use Rattle.hex.specs.Hex.{IsBytes}
+use Rattle.sst_meta.specs.BlockFooter.{EndsWith, EndsIn, IsTable, IsOtherTable, IsBuilt}
 use Rattle.sst_meta.specs.Footer.{block_based_magic, legacy_block_based_magic, plain_magic, legacy_plain_magic, cuckoo_magic, AreHandles}
 use Rattle.sst_meta.specs.FooterReading.{last_bytes, handles_read, as_footer, fields_read}
 use Rattle.sst_meta.specs.LoadReading.{end_read, handle_in, varint_in, fixed_in, is_below, comparator_fault, index_type_by, index_type_fault, is_valued, global_in, global_fault, external_fault, flag_fault}

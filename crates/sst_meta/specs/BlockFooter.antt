@@ -1,7 +1,7 @@
 -- The footer of a block-based file that is read: 53 bytes, masked CRC32C, version 2, 3 or 4.
 -- RocksDB: table/format.h (Footer), table/format.cc (Footer::DecodeFrom).
 -- Pinned by: a_footer_is_read
-use Rattle.std.specs.Prelude.{◌≡◌, ◌⊎◌, ℕ, ◌-◌, ◌^◌, ◌<◌, ◌≤◌, false, List, ◌∷◌, ◌++◌, length, slice_index}
+use Rattle.std.specs.Prelude.{◌≡◌, ◌⊎◌, ℕ, ◌-◌, ◌^◌, ◌<◌, ◌≤◌, false, List, ◌∷◌, ◌++◌, length}
 use Rattle.sst_num.specs.Spelling.{fixed}
 use Rattle.sst_num.specs.declared.block_handle.Handle.{Handle}
 use Rattle.sst_key.specs.declared.calls.Format.TheVariants as Format
@@ -62,9 +62,3 @@ pub record FooterLeads (file : List ℕ) (end : ℕ) (metaindex index : Handle) 
   pub ends : EndsIn file end 1 version between
   pub built : IsBuilt version
   pub handles : AreHandles metaindex index between
-
--- the numbers are bytes, as those of a real file are
--- Own.
--- Pinned by: a_footer_is_read, a_fault_is_shown
-abbrev pub IsBytes : List ℕ → Type 0
-IsBytes numbers = (i : ℕ) → slice_index numbers i < 256

@@ -88,8 +88,8 @@
 //! specs/LoadReading.antt), or that the device failed or memory ran out. What a file says is told by its footer, its
 //! blocks and their rows, and never by reading (`Meta`, specs/Meta.antt); what is loaded is exactly that
 //! ([`a_file_loads_as_it_says`], [`a_footer_is_read`]). A fault is one that the file shows (`ShowsMeta`,
-//! specs/MetaFaults.antt), and a file that loads shows none ([`a_meta_fault_is_shown`]). Of several faults it is the one whose
-//! step comes first (`LoadStep`, specs/LoadSteps.antt; [`the_fault_of_loading_is_the_first`]).
+//! specs/MetaFaults.antt), and a file that loads shows none ([`a_meta_fault_is_shown`]). Of several faults it is the one
+//! whose step comes first (`LoadStep`, specs/LoadSteps.antt; [`the_fault_of_loading_is_the_first`]).
 //!
 //! [`put_ending`] ends a file: it takes the properties as a list, and appends the properties block, the metaindex block
 //! that leads to it, and the footer (`ending_of`, specs/Put.antt). A file with this end (`file_with`) is loaded as these

@@ -2,7 +2,8 @@
 ghost use Rattle.std.specs.Prelude.{◌≡◌, ◌⊎◌, ℕ, ◌-◌, ◌^◌, ◌<◌, ◌≤◌, List, length, Ok, Err};
 ghost use Rattle.sst_num.specs.declared.block_handle.Handle.{Handle};
 ghost use Rattle.sst_block.specs.Block.{Row};
-ghost use Rattle.sst_meta.specs.BlockFooter.{IsBytes, FooterLeads, IsBuilt, block_footer, footer_start};
+ghost use Rattle.hex.specs.Hex.{IsBytes};
+ghost use Rattle.sst_meta.specs.BlockFooter.{FooterLeads, IsBuilt, block_footer, footer_start};
 ghost use Rattle.sst_meta.specs.FooterReading.{last_bytes};
 ghost use Rattle.sst_meta.specs.LoadReading.{end_read, load_read};
 ghost use Rattle.sst_meta.specs.LoadSteps.{LoadStep, number_of, FailsAt, FailsFirst};
