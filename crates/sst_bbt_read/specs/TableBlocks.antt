@@ -5,6 +5,7 @@
 use Rattle.std.specs.Prelude.{◌≡◌, ℕ, zero, suc, ◌-◌, ◌<◌, ◌≤◌, false, List, [], ◌∷◌, length, map, take, drop, All}
 use Rattle.sst_key.specs.declared.entries.Entry.{Entry}
 use Rattle.sst_key.specs.Entry.{IsOrdered}
+use Rattle.sst_key.specs.Limits.{key_limit}
 use Rattle.sst_block.specs.declared.row_form.RowForm.TheVariants.{Index}
 use Rattle.sst_block.specs.Block.{Row, AreOrdered}
 use Rattle.sst_bbt_spec.specs.Rows.{HasSeq, rows_of}
@@ -65,7 +66,7 @@ separator_rows ends = map (λ (b : BlockEnd). record { key = b.separator; value 
 pub record AreEntries (entries : List Entry) : Type 0 where
   pub ordered : IsOrdered entries
   pub seqs : All HasSeq entries
-  pub users : All (λ (e : Entry). length e.user ≤ 65536) entries
+  pub users : All (λ (e : Entry). length e.user ≤ key_limit) entries
 
 -- what a reader keeps of a table: the separators are stored keys in order, and the entries of each block are in order
 -- Own.

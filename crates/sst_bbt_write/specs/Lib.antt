@@ -1,6 +1,5 @@
 pub mod After
 pub mod Cut
 pub mod Keeps
-pub mod Limits
 pub mod Reasons
 pub mod Written

@@ -8,7 +8,7 @@ use Rattle.sst_key.specs.Entry.{key_of, weight, entry_weight}
 use Rattle.sst_key.specs.InternalKey.{internal_cmp}
 use Rattle.sst_block.specs.Builder as builder
 use Rattle.sst_bbt_spec.specs.Rows.{rows_of}
-use Rattle.sst_bbt_write.specs.Limits.{key_limit, value_limit, weight_limit}
+use Rattle.sst_key.specs.Limits.{key_limit, value_limit, weight_limit}
 
 -- the entry is after those of the list
 -- Pinned by: refused_lines, lists_that_fit

@@ -18,7 +18,7 @@ use Rattle.sst_meta.specs.Put.{ending_of}
 use Rattle.sst_bbt_spec.specs.Rows.{HasSeq, rows_of}
 use Rattle.sst_bbt_spec.specs.BlockBased.{BlockBased}
 use Rattle.sst_bbt_write.specs.Cut.{data_block, blocks_for}
-use Rattle.sst_bbt_write.specs.Limits.{key_limit, value_limit, weight_limit}
+use Rattle.sst_key.specs.Limits.{key_limit, value_limit, weight_limit}
 use Rattle.sst_meta.specs.PropertyNames as property_names
 use Rattle.sst_meta.specs.declared.name.Name.TheVariants as name
 use Rattle.sst_bbt_write.specs.declared.bbt_options.BbtOptions.{BbtOptions}

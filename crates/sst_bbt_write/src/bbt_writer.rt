@@ -13,7 +13,7 @@ ghost use Rattle.sst_bbt_write.specs.After.{After, HasFailed, IsInUse};
 ghost use Rattle.sst_bbt_write.specs.Reasons.{reason, is_after};
 ghost use Rattle.sst_bbt_spec.specs.Rows.{rows_of};
 ghost use Rattle.sst_bbt_write.specs.Cut.{Blocks, is_full};
-ghost use Rattle.sst_bbt_write.specs.Limits.{weight_limit};
+ghost use Rattle.sst_key.specs.Limits.{weight_limit};
 ghost use Rattle.sst_bbt_write.specs.Keeps.{Keeps, KeepsSome, ended_now, ended_last, with_room, with_entry};
 ghost use Rattle.sst_bbt_write.specs.Written.{Fits, Written, end_part, sizes_of};
 ghost use Rattle.sst_bbt_write.specs.declared.bbt_options.BbtOptions.{BbtOptions};

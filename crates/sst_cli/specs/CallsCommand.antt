@@ -4,6 +4,7 @@ use Rattle.std.specs.Io.KnownBytes.{append_known}
 use Rattle.hex.specs.Hex.{IsBytes}
 use Rattle.sst_key.specs.declared.entries.Entry.{Entry}
 use Rattle.sst_key.specs.declared.calls.Call.{Call}
+use Rattle.sst_meta.specs.Footer.{later_length}
 use Rattle.sst_meta.specs.FooterReading.{last_bytes}
 use Rattle.sst_bbt_spec.specs.Way.{IndexedBlock}
 use Rattle.sst_bbt_read.specs.FaultText.{fault_text}
@@ -39,14 +40,14 @@ pub record AnsweredByWay (result : Status) (blocks : List IndexedBlock) (calls :
   pub printed : now ≡ append_known before (way_text blocks calls)
 
 -- the first thing that is wrong with the file was printed, the file shows it, and the input is read to its end; that
--- it is shown needs that the last 53 numbers of the file are bytes, as those of a real one are
+-- it is shown needs that the last numbers of the file, as many as a footer has, are bytes, as those of a real one are
 -- Pinned by: what_calls_come_to.damaged
 pub record IsDamaged (result : Status) (file : List ℕ) (left before now : Option (List ℕ)) : Type 0 where
   pub ends : result ≡ File
   pub read : left ≡ Some []
   pub fault : BbtFault
   pub first : blocks_read file ≡ Err fault
-  pub shown : IsBytes (last_bytes 53 file) → Shows file fault
+  pub shown : IsBytes (last_bytes later_length file) → Shows file fault
   pub printed : now ≡ append_known before (fault_text fault)
 
 -- what is answered of data blocks: a line for each call, by the way of the blocks

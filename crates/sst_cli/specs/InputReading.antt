@@ -7,6 +7,7 @@ use Rattle.sst_key.specs.declared.faults.WriteFault.{WriteFault}
 use Rattle.sst_cli.specs.declared.input.refusal.Reason.{Reason}
 use Rattle.sst_cli.specs.declared.input.refusal.Reason.TheVariants.{LineLong, Line, Refused, Many}
 use Rattle.sst_cli.specs.declared.input.refusal.Refusal.{Refusal}
+use Rattle.sst_text.specs.Limits.{line_limit}
 use Rattle.sst_text.specs.Texts.{entry_of_line}
 use Rattle.sst_text.specs.CallText.{call_of_line}
 use Rattle.sst_bbt_write.specs.Reasons.{reason}
@@ -39,7 +40,7 @@ refused_at number why = record { line = number; reason = why }
 abbrev pub read_last : {A : Type 0} → ℕ → List A → List ℕ → Result (List A) Refusal
 read_last number items [] = Ok items
 read_last number items (b ∷ rest) =
-    if nat_lt 40000000 (length (b ∷ rest)) then Err (refused_at number LineLong) else Err (refused_at number Line)
+    if nat_lt line_limit (length (b ∷ rest)) then Err (refused_at number LineLong) else Err (refused_at number Line)
 
 -- what the pieces of a text say, where `read` tells what a line says after the items before it: those items and
 -- those of the lines, or the first refusal
@@ -68,23 +69,29 @@ by_entry entries (Some e) = by_reason e (reason entries e)
 -- what an entry line says after these entries: its entry, or the first reason to refuse it
 -- Pinned by: long_lines
 unfoldable pub read_line : List Entry → List ℕ → Result Entry Reason
-read_line entries line = if nat_lt 40000000 (length line) then Err LineLong else by_entry entries (entry_of_line line)
+read_line entries line = if nat_lt line_limit (length line) then Err LineLong else by_entry entries (entry_of_line line)
 
 -- what the whole input of a `write` says
 -- Pinned by: a_list_reads_back, refused_lines
 abbrev pub read_input : List ℕ → Result (List Entry) Refusal
 read_input text = read_from read_line 1 [] text
 
+-- the most calls of an input
+-- Own.
+-- Pinned by: as_many_calls_as_there_may_be
+abbrev pub calls_limit : ℕ
+calls_limit = 1048576
+
 -- the call of a line, if fewer than 1,048,576 calls came before it
 -- Pinned by: as_many_calls_as_there_may_be, what_a_text_says_fits
 abbrev pub by_call : List Call → Option Call → Result Call Reason
 by_call calls None = Err Line
-by_call calls (Some call) = if nat_le 1048576 (length calls) then Err Many else Ok call
+by_call calls (Some call) = if nat_le calls_limit (length calls) then Err Many else Ok call
 
 -- what a call line says after these calls: its call, or the first reason to refuse it
 -- Pinned by: long_lines, lines_that_are_no_call_lines
 unfoldable pub read_call : List Call → List ℕ → Result Call Reason
-read_call calls line = if nat_lt 40000000 (length line) then Err LineLong else by_call calls (call_of_line line)
+read_call calls line = if nat_lt line_limit (length line) then Err LineLong else by_call calls (call_of_line line)
 
 -- what the whole input of `calls` says
 -- Pinned by: a_call_list_reads_back, lines_that_are_no_call_lines

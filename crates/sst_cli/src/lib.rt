@@ -7,7 +7,7 @@
 //!               command_of
 //! words ------------------------> OUT, options ------------------ begin, add -------------> file
 //!                                                                                            ^
-//!               LineReader          entry_of_line          BbtWriter: add, finish            |
+//!               LineReader          EntryRoom: read        BbtWriter: add, finish            |
 //! input ----------------> lines ----------------> entries -----------------------> bytes ----+
 //!                           |                        |                               |
 //!                           | line-long, line        | not-increasing, key-long,     | how many

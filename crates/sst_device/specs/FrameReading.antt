@@ -2,9 +2,10 @@
 -- RocksDB: table/block_fetcher.cc (BlockFetcher::ReadBlockContents, ProcessTrailerIfPresent) and VerifyBlockChecksum
 -- in table/block_based/reader_common.cc.
 -- Pinned by: a_stored_block_is_read, blocks_that_are_read
-use Rattle.std.specs.Prelude.{ℕ, ◌+◌, ◌^◌, ◌==◌, nat_lt, if◌then◌else◌, List, take, drop, slice_index, Option, None, Some, Result, Ok, Err, Bool, false}
+use Rattle.std.specs.Prelude.{ℕ, ◌+◌, ◌==◌, nat_lt, if◌then◌else◌, List, take, drop, slice_index, Option, None, Some, Result, Ok, Err, Bool, false}
 use Rattle.sst_num.specs.NumberReading.{fixed_at}
 use Rattle.sst_num.specs.declared.block_handle.Handle.{Handle}
+use Rattle.sst_key.specs.Limits.{block_limit}
 use Rattle.sst_sums.specs.Sums.{mask, crc32c}
 use Rattle.sst_device.specs.Framed.{bytes_at}
 use Rattle.sst_device.specs.declared.frame.FrameFault.{FrameFault}
@@ -16,7 +17,7 @@ use Rattle.sst_device.specs.declared.frame.FrameFault.TheVariants.{OutOfFile, To
 abbrev pub early_fault : ℕ → Handle → Option FrameFault
 early_fault end h =
     if nat_lt end (h.offset + h.size + 5) then Some (OutOfFile h)
-    else if nat_lt (2 ^ 29) h.size then Some (TooLarge h)
+    else if nat_lt block_limit h.size then Some (TooLarge h)
     else None
 
 -- a stored checksum is that of the bytes

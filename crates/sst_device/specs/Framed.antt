@@ -3,9 +3,10 @@
 -- ComputeBuiltinChecksumWithLastByte in table/format.cc, and
 -- BlockBasedTableBuilder::WriteMaybeCompressedBlock in table/block_based/block_based_table_builder.cc.
 -- Pinned by: stored_blocks
-use Rattle.std.specs.Prelude.{◌≡◌, ℕ, ◌+◌, ◌^◌, ◌≤◌, List, [], ◌∷◌, ◌++◌, take, drop}
+use Rattle.std.specs.Prelude.{◌≡◌, ℕ, ◌+◌, ◌≤◌, List, [], ◌∷◌, ◌++◌, take, drop}
 use Rattle.sst_num.specs.Spelling.{fixed}
 use Rattle.sst_num.specs.declared.block_handle.Handle.{Handle}
+use Rattle.sst_key.specs.Limits.{block_limit}
 use Rattle.sst_sums.specs.Sums.{mask, crc32c}
 
 -- the stored checksum of a block that isn't compressed: over the block and its type byte, which is 0
@@ -34,7 +35,7 @@ pub record Framed (file : List ℕ) (end : ℕ) (handle : Handle) (block : List 
   -- the block and its trailer end before the footer
   pub within : handle.offset + handle.size + 5 ≤ end
   -- a reader takes no larger block
-  pub limited : handle.size ≤ 2 ^ 29
+  pub limited : handle.size ≤ block_limit
   -- the block stands there
   pub stands : bytes_at file handle.offset handle.size ≡ block
   -- the next byte says that it isn't compressed
@@ -51,6 +52,6 @@ pub record Bare (file : List ℕ) (end : ℕ) (handle : Handle) (block : List �
   -- the block ends before the footer
   pub within : handle.offset + handle.size ≤ end
   -- a reader takes no larger block
-  pub limited : handle.size ≤ 2 ^ 29
+  pub limited : handle.size ≤ block_limit
   -- the block stands there
   pub stands : bytes_at file handle.offset handle.size ≡ block

@@ -5,7 +5,7 @@ use Rattle.std.specs.Prelude.{◌≡◌, ◌⊎◌, ℕ, ◌-◌, ◌^◌, ◌<�
 use Rattle.sst_num.specs.Spelling.{fixed}
 use Rattle.sst_num.specs.declared.block_handle.Handle.{Handle}
 use Rattle.sst_key.specs.declared.calls.Format.TheVariants as Format
-use Rattle.sst_meta.specs.Footer.{block_based_magic, legacy_block_based_magic, plain_magic, legacy_plain_magic, cuckoo_magic, AreHandles}
+use Rattle.sst_meta.specs.Footer.{block_based_magic, legacy_block_based_magic, plain_magic, legacy_plain_magic, cuckoo_magic, legacy_length, later_length, AreHandles}
 use Rattle.sst_meta.specs.declared.footer.Footer.{Footer}
 
 -- the footer of a block-based file with masked CRC32C, which has 53 bytes
@@ -17,7 +17,7 @@ block_footer version metaindex index =
 -- where the footer of a block-based file begins
 -- Pinned by: a_footer_is_read, stored_blocks
 abbrev pub footer_start : List ℕ → ℕ
-footer_start file = length file - 53
+footer_start file = length file - later_length
 
 -- the last twelve bytes of its footer: the version and the magic number
 -- RocksDB: table/format.cc, FooterBuilder::Build
@@ -32,13 +32,13 @@ EndsWith magic footer_length file = (footer_length ≤ length file) × ((front :
 -- Pinned by: a_footer_is_read, a_meta_fault_is_shown
 abbrev pub IsTable : List ℕ → Type 0
 IsTable file =
-    EndsWith block_based_magic 53 file ⊎ EndsWith legacy_block_based_magic 48 file ⊎ EndsWith plain_magic 53 file
-    ⊎ EndsWith legacy_plain_magic 48 file ⊎ EndsWith cuckoo_magic 53 file
+    EndsWith block_based_magic later_length file ⊎ EndsWith legacy_block_based_magic legacy_length file ⊎ EndsWith plain_magic later_length file
+    ⊎ EndsWith legacy_plain_magic legacy_length file ⊎ EndsWith cuckoo_magic later_length file
 
 -- the file is a plain or a cuckoo table
 -- Pinned by: a_footer_is_read, a_meta_fault_is_shown
 abbrev pub IsOtherTable : List ℕ → Type 0
-IsOtherTable file = EndsWith plain_magic 53 file ⊎ EndsWith legacy_plain_magic 48 file ⊎ EndsWith cuckoo_magic 53 file
+IsOtherTable file = EndsWith plain_magic later_length file ⊎ EndsWith legacy_plain_magic legacy_length file ⊎ EndsWith cuckoo_magic later_length file
 
 -- the footer of a block-based file says this: the checksum type, 40 bytes with the handles, the version. `end` is the
 -- file's length without its footer.

@@ -1,17 +1,24 @@
 -- What a builder of a block of names and values holds between its calls.
 -- RocksDB: PropertyBlockBuilder in table/meta_blocks.h and meta_blocks.cc.
-use Rattle.std.specs.Prelude.{◌⊎◌, ◌^◌, ◌<◌, ◌≤◌, List, [], ◌∷◌, ◌++◌, length}
+use Rattle.std.specs.Prelude.{◌⊎◌, ℕ, ◌<◌, ◌≤◌, List, [], ◌∷◌, ◌++◌, length}
+use Rattle.sst_key.specs.Limits.{stored_key_limit, block_limit}
 use Rattle.sst_block.specs.declared.row_form.RowForm.TheVariants.{Names}
 use Rattle.sst_block.specs.Block.{Row, AreOrdered}
 use Rattle.sst_block.specs.Chosen.{block_of}
 use Rattle.sst_block.specs.Builder as rows
 use Rattle.sst_meta.specs.declared.builder.PropsBuilder.{PropsBuilder}
 
+-- a restart begins so many pairs: one begins them all, since a block has no more of them
+-- Own.
+-- Pinned by: finish.exact, two_properties
+abbrev pub props_interval : ℕ
+props_interval = 65536
+
 -- the builder holds these pairs of a name and a value, which were set in this order
 -- Own.
 -- Pinned by: finish.exact, two_properties
 abbrev pub Holds : PropsBuilder → List Row → Type 0
-Holds b pairs = rows.Holds b.rows Names 65536 pairs
+Holds b pairs = rows.Holds b.rows Names props_interval pairs
 
 -- memory ran out in an earlier call
 -- Own.
@@ -26,10 +33,10 @@ HasFailed b = rows.HasFailed b.rows
 pub record Takes (b : PropsBuilder) (pair : Row) : Type 0 where
   pub pairs : List Row
   pub holds : Holds b pairs
-  pub short_name : length pair.key ≤ 65544
+  pub short_name : length pair.key ≤ stored_key_limit
   pub after : AreOrdered Names (pairs ++ pair ∷ [])
-  pub few : length pairs < 65536
-  pub short : length (block_of 65536 (pairs ++ pair ∷ [])) < 2 ^ 29
+  pub few : length pairs < props_interval
+  pub short : length (block_of props_interval (pairs ++ pair ∷ [])) < block_limit
 
 -- a builder that has failed refuses each pair, and any other takes those that may come next
 -- Own.

@@ -4,6 +4,7 @@ use Rattle.std.specs.Prelude.{ℕ, ◌+◌, List, Option, None, Some, option_and
 use Rattle.sst_num.specs.declared.block_handle.Handle.{Handle}
 use Rattle.sst_block.specs.Block.{Row}
 use Rattle.sst_device.specs.Drawn.{block_drawn}
+use Rattle.sst_meta.specs.Footer.{later_length}
 use Rattle.sst_meta.specs.LoadReading.{handle_in}
 use Rattle.sst_meta.specs.Names.{name_bytes}
 use Rattle.sst_meta.specs.Pairs.{value_of}
@@ -24,4 +25,4 @@ props_drawn names = handle_drawn (option_and_then handle_in (value_of (name_byte
 -- for all that the file says of itself: its last 53 bytes, its metaindex, its properties
 -- RocksDB: table/meta_blocks.cc
 abbrev pub loaded_drawn : Loaded → ℕ
-loaded_drawn l = 53 + block_drawn l.footer.meta + props_drawn l.names
+loaded_drawn l = later_length + block_drawn l.footer.meta + props_drawn l.names

@@ -40,11 +40,21 @@ magic_of Plain true = legacy_plain_magic
 magic_of Plain false = plain_magic
 magic_of Cuckoo legacy = cuckoo_magic
 
--- how many bytes a footer takes
+-- how many bytes a legacy footer takes
+-- Pinned by: a_footer_reads_back, a_footer_is_read
+abbrev pub legacy_length : ℕ
+legacy_length = 48
+
+-- how many bytes any other footer takes
+-- Pinned by: a_footer_reads_back, a_footer_is_read
+abbrev pub later_length : ℕ
+later_length = 53
+
+-- how many bytes a footer takes, by whether it is legacy
 -- Pinned by: a_footer_reads_back, a_footer_is_read
 abbrev pub footer_length : Bool → ℕ
-footer_length true = 48
-footer_length false = 53
+footer_length true = legacy_length
+footer_length false = later_length
 
 -- the metaindex handle and the index handle
 -- Pinned by: footers_that_are_put

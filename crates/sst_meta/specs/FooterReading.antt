@@ -6,7 +6,7 @@ use Rattle.sst_num.specs.NumberReading.{fixed_at, handle_at}
 use Rattle.sst_num.specs.declared.block_handle.Handle.{Handle}
 use Rattle.sst_key.specs.declared.calls.Format.{Format}
 use Rattle.sst_key.specs.declared.calls.Format.TheVariants.{Block, Plain, Cuckoo}
-use Rattle.sst_meta.specs.Footer.{block_based_magic, legacy_block_based_magic, plain_magic, legacy_plain_magic, cuckoo_magic}
+use Rattle.sst_meta.specs.Footer.{block_based_magic, legacy_block_based_magic, plain_magic, legacy_plain_magic, cuckoo_magic, legacy_length, later_length}
 use Rattle.sst_meta.specs.declared.footer.Footer.{Footer}
 use Rattle.sst_meta.specs.declared.meta_fault.MetaFault.{MetaFault}
 use Rattle.sst_meta.specs.declared.meta_fault.MetaFault.TheVariants.{NotTable, Version, ChecksumType, BadFooter}
@@ -28,15 +28,15 @@ number_at_end tail = if nat_lt (length tail) 8 then None else fixed_at 8 (last_b
 -- Pinned by: footers_that_are_read
 abbrev pub other_kind_of : ℕ → ℕ → Option (Format × Bool)
 other_kind_of magic size =
-    if magic == plain_magic && nat_le 53 size then Some (Plain, false)
-    else if magic == legacy_plain_magic && nat_le 48 size then Some (Plain, true)
-    else if magic == cuckoo_magic && nat_le 53 size then Some (Cuckoo, false)
+    if magic == plain_magic && nat_le later_length size then Some (Plain, false)
+    else if magic == legacy_plain_magic && nat_le legacy_length size then Some (Plain, true)
+    else if magic == cuckoo_magic && nat_le later_length size then Some (Cuckoo, false)
     else None
 
 abbrev pub kind_of : ℕ → ℕ → Option (Format × Bool)
 kind_of magic size =
-    if magic == block_based_magic && nat_le 53 size then Some (Block, false)
-    else if magic == legacy_block_based_magic && nat_le 48 size then Some (Block, true)
+    if magic == block_based_magic && nat_le later_length size then Some (Block, false)
+    else if magic == legacy_block_based_magic && nat_le legacy_length size then Some (Block, true)
     else other_kind_of magic size
 
 -- the same where there is a number
@@ -133,7 +133,7 @@ legacy_read format bytes = fields_read format true 0 (legacy_checksum format) (t
 -- Pinned by: a_footer_is_read, a_footer_reads_back
 abbrev pub by_kind : List ℕ → Option (Format × Bool) → Result Footer MetaFault
 by_kind tail None = Err NotTable
-by_kind tail (Some kind) = if kind.1 then legacy_read kind.0 (last_bytes 48 tail) else later_read kind.0 (last_bytes 53 tail)
+by_kind tail (Some kind) = if kind.1 then legacy_read kind.0 (last_bytes legacy_length tail) else later_read kind.0 (last_bytes later_length tail)
 
 -- what the last 53 bytes of a file say, or the whole of a shorter file
 -- Pinned by: a_footer_is_read, a_footer_reads_back

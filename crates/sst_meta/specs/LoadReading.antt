@@ -14,6 +14,7 @@ use Rattle.sst_block.specs.Block.{Row}
 use Rattle.sst_key.specs.declared.calls.Format.{Format}
 use Rattle.sst_meta.specs.BlockFooter.{footer_start}
 use Rattle.sst_meta.specs.Blocks.{then_open, block_at}
+use Rattle.sst_meta.specs.Footer.{later_length}
 use Rattle.sst_meta.specs.FooterReading.{footer_read, format_at, last_bytes}
 use Rattle.sst_meta.specs.Names.{name_bytes, range_tombstones, comparator, bytewise}
 use Rattle.sst_meta.specs.Pairs.{value_of}
@@ -216,5 +217,5 @@ names_read file end footer =
 unfoldable pub load_read : List ℕ → Result Loaded MetaFault
 load_read file =
     if nat_lt (length file) (2 ^ 40)
-    then then_open (end_read (last_bytes 53 file)) (names_read file (footer_start file))
+    then then_open (end_read (last_bytes later_length file)) (names_read file (footer_start file))
     else Err meta.FileLong

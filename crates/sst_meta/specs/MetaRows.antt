@@ -1,8 +1,9 @@
 -- The rows of a meta block as a writer gives them: names, and values that are numbers, handles or bytes.
 -- RocksDB: PropertyBlockBuilder::Add and AddTableProperty, and MetaIndexBuilder::Add, in table/meta_blocks.cc.
 -- Pinned by: put_ending.ok, what_was_put
-use Rattle.std.specs.Prelude.{ℕ, ◌+◌, ◌^◌, ◌<◌, List, map, sum_by, All}
+use Rattle.std.specs.Prelude.{ℕ, ◌+◌, ◌<◌, List, map, sum_by, All}
 use Rattle.sst_num.specs.Spelling.{varint, fixed, handle_spelling}
+use Rattle.sst_key.specs.Limits.{block_limit}
 use Rattle.sst_block.specs.declared.row_form.RowForm.TheVariants.{Names}
 use Rattle.sst_block.specs.Block.{Row, IsRow, AreOrdered}
 use Rattle.sst_block.specs.Builder.{row_room}
@@ -31,4 +32,4 @@ rows_given rows = map row_given rows
 pub record AreMetaRows (rows : List Row) : Type 0 where
   pub forms : All (IsRow Names) rows
   pub ordered : AreOrdered Names rows
-  pub room : sum_by row_room rows + 8 < 2 ^ 29
+  pub room : sum_by row_room rows + 8 < block_limit

@@ -3,14 +3,16 @@
 -- RocksDB: BlockBasedTableBuilder::Finish with WritePropertiesBlock and WriteFooter in
 -- table/block_based/block_based_table_builder.cc; PropertyBlockBuilder and MetaIndexBuilder in table/meta_blocks.cc.
 -- Pinned by: what_is_put_is_loaded
-use Rattle.std.specs.Prelude.{ℕ, ◌+◌, ◌^◌, ◌≤◌, List, [], ◌∷◌, ◌++◌, length, Some, All}
+use Rattle.std.specs.Prelude.{ℕ, ◌+◌, ◌≤◌, List, [], ◌∷◌, ◌++◌, length, Some, All}
 use Rattle.sst_num.specs.Spelling.{handle_spelling}
 use Rattle.sst_num.specs.declared.block_handle.Handle.{Handle}
+use Rattle.sst_key.specs.Limits.{block_limit}
 use Rattle.sst_block.specs.declared.row_form.RowForm.TheVariants.{Names}
 use Rattle.sst_block.specs.Block.{Row, IsRow, AreOrdered}
 use Rattle.sst_block.specs.Chosen.{block_of}
 use Rattle.sst_device.specs.Framed.{frame_of}
 use Rattle.sst_meta.specs.BlockFooter.{block_footer}
+use Rattle.sst_meta.specs.Builder.{props_interval}
 use Rattle.sst_meta.specs.Footer.{footer_spelling}
 use Rattle.sst_meta.specs.Meta.{AreGood}
 use Rattle.sst_meta.specs.Names.{name_bytes}
@@ -20,7 +22,7 @@ use Rattle.sst_meta.specs.declared.name.Name.TheVariants as name
 
 -- the properties block, which a builder of such blocks makes
 abbrev pub props_for : List Row → List ℕ
-props_for pairs = block_of 65536 pairs
+props_for pairs = block_of props_interval pairs
 
 -- the rows of the metaindex, which is one: it leads to the properties block, which stands at this place
 abbrev pub metaindex_for : ℕ → List Row → List Row
@@ -68,5 +70,5 @@ loaded_with front version index pairs =
 pub record AreProps (pairs : List Row) : Type 0 where
   pub forms : All (IsRow Names) pairs
   pub ordered : AreOrdered Names pairs
-  pub short : length (props_for pairs) ≤ 2 ^ 29
+  pub short : length (props_for pairs) ≤ block_limit
   pub good : AreGood pairs

@@ -10,6 +10,7 @@ use Rattle.hex.specs.Hex.{IsBytes}
 use Rattle.sst_key.specs.declared.calls.Target.{Target}
 use Rattle.sst_key.specs.declared.calls.Call.{Call}
 use Rattle.sst_key.specs.declared.calls.Call.TheVariants.{Get, First, Last, Seek, SeekForPrev, Next, Prev}
+use Rattle.sst_key.specs.Limits.{key_limit}
 use Rattle.sst_text.specs.Texts.{◌>>=◌, cut, bytes_field, seq_field}
 use Rattle.sst_text.specs.EntryText.{hex_text}
 
@@ -18,7 +19,7 @@ use Rattle.sst_text.specs.EntryText.{hex_text}
 -- the target of two fields: a user key of at most 65,536 bytes, and the sequence number of a snapshot
 -- Pinned by: long_targets, lists, a_call_line_is_that_of_its_call
 abbrev pub target_of_user : ℕ → List ℕ → Option Target
-target_of_user seq user = if nat_le (length user) 65536 then Some (record { user = user; seq = seq }) else None
+target_of_user seq user = if nat_le (length user) key_limit then Some (record { user = user; seq = seq }) else None
 
 abbrev pub target_of_fields : List ℕ → List ℕ → Option Target
 target_of_fields user seq = seq_field seq >>= λ n. bytes_field user >>= target_of_user n
@@ -104,7 +105,7 @@ calls_text calls = flat_map ended_call calls
 -- Own: the limits.
 -- Pinned by: a_call_line_reads_back, read_calls.limits, what_a_text_says_fits
 pub record IsTargetInLimits (target : Target) : Type 0 where
-  pub key : length target.user ≤ 65536
+  pub key : length target.user ≤ key_limit
   pub seq : target.seq < 2 ^ 56
 
 -- the target of a call is in its limits, if it has one

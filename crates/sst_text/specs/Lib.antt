@@ -1,5 +1,6 @@
 pub mod CallText
 pub mod EntryText
+pub mod Limits
 pub mod LineFields
 pub mod Lines
 pub mod ReplyText

@@ -1,6 +1,7 @@
 -- How much of a text was taken: up to the end of a line, and at most one piece more.
 -- Pinned by: refused_calls_take_a_piece_more
 use Rattle.std.specs.Prelude.{◌≡◌, ℕ, zero, suc, ◌+◌, ◌==◌, ◌≤◌, if◌then◌else◌, List, [], ◌∷◌, length, Option, Some}
+use Rattle.sst_text.specs.Limits.{piece_limit}
 
 -- what follows the first line of a text and its line end; nothing where no line ends
 abbrev pub past_line : List ℕ → List ℕ
@@ -16,4 +17,4 @@ past_lines (suc n) text = past_lines n (past_line text)
 pub record IsTakenTo (lines : ℕ) (text : List ℕ) (left : Option (List ℕ)) : Type 0 where
   pub rest : List ℕ
   pub told : left ≡ Some rest
-  pub near : length (past_lines lines text) ≤ 65536 + length rest
+  pub near : length (past_lines lines text) ≤ piece_limit + length rest

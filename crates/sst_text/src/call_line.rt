@@ -3,9 +3,9 @@ ghost use Rattle.std.specs.Prelude.{◌≡◌, IfOk};
 ghost use Rattle.sst_text.specs.CallText as calls;
 
 use crate::cuts::cut;
-use crate::fields::{bytes_field, seq_field};
+use crate::fields::{read_bytes, seq_field};
 use sst_key::{Call, Target};
-use sst_num::Memory;
+use sst_num::{Bytes, Memory};
 use std::alloc::Global;
 
 /// The most bytes that the user key of a target has.
@@ -15,17 +15,15 @@ const KEY_LIMIT: usize = 65_536;
 fn target_of_fields(alloc: Global, user: &[u8], seq: &[u8]) -> Result<Option<Target>, Memory>
     ensures { IfOk result (λ target. target ≡ calls.target_of_fields user.now seq.now) }
 {
-    match seq_field(seq) {
-        None => Ok(None),
-        Some(seq) => match bytes_field(alloc, user)? {
-            None => Ok(None),
-            Some(user) => Ok(if user.len() <= KEY_LIMIT {
-                Some(Target { user, seq })
-            } else {
-                None
-            }),
-        },
+    let Some(seq) = seq_field(seq) else {
+        return Ok(None);
+    };
+    let mut key = Vec::new(alloc);
+    if !read_bytes(&mut key, user)? || key.len() > KEY_LIMIT {
+        return Ok(None);
     }
+    let user = Bytes::from(key);
+    Ok(Some(Target { user, seq }))
 }
 
 /// The target of a text, which is two fields with one blank between them.

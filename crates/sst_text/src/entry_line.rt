@@ -1,15 +1,16 @@
 //! The entry of a line, `USER SEQ KIND VALUE`. The fields and the letters are this project's own.
-ghost use Rattle.std.specs.Prelude.{◌≡◌, IfOk};
+ghost use Rattle.std.specs.Prelude.{◌≡◌, Some, None, if◌then◌else◌, IfOk};
 ghost use Rattle.std.specs.Option.{option_map};
-ghost use Rattle.sst_key.specs.declared.entries.Entry as entry;
+ghost use Rattle.sst_key.specs.Entry.{entry_of};
 ghost use Rattle.sst_text.specs.Texts as texts;
 ghost use Rattle.sst_text.specs.LineFields.{seen};
 
 use crate::cuts::cut;
-use crate::fields::{bytes_field, seq_field};
-use sst_key::{Entry, Kind};
+use crate::fields::{read_bytes, seq_field};
+use sst_key::{EntryView, Kind};
 use sst_num::Memory;
 use std::alloc::Global;
+use std::marker::Model;
 
 /// The fields of an entry line, the keys and values still in hex digits.
 #[derive(Clone, Copy)]
@@ -61,31 +62,72 @@ fn fields_of(line: &[u8]) -> Option<Fields<'_>>
     })
 }
 
-/// The entry of four fields.
-#[tactic(auto, unfolding(crate::specs::Texts::entry_of_fields))]
-fn entry_of_fields(alloc: Global, fields: &Fields<'_>) -> Result<Option<Entry>, Memory>
-    ensures { IfOk result (λ entry. entry ≡ texts.entry_of_fields (seen fields.now)) }
-{
-    match bytes_field(alloc, fields.user)? {
-        None => Ok(None),
-        Some(user) => match bytes_field(alloc, fields.value)? {
-            None => Ok(None),
-            Some(value) => Ok(Some(Entry {
-                user,
-                seq: fields.seq,
-                kind: fields.kind,
-                value,
-            })),
-        },
-    }
+/// Room for the entry of a line, used again for the next. Contracts see it as the entry that it holds.
+///
+/// Where a list of entry lines is only passed on, one room serves for all of them: it takes memory for the longest.
+#[derive(Drop)]
+pub struct EntryRoom {
+    user: Vec<u8>,
+    seq: u64,
+    kind: Kind,
+    value: Vec<u8>,
 }
 
-/// The entry of a line without its line end, where it is an entry line.
-pub fn entry_of_line(alloc: Global, line: &[u8]) -> Result<Option<Entry>, Memory>
-    ensures { IfOk result (λ entry. entry ≡ texts.entry_of_line line.now) }
-{
-    match fields_of(line) {
-        None => Ok(None),
-        Some(fields) => entry_of_fields(alloc, &fields),
+impl Model for EntryRoom {
+    ghost use Rattle.sst_key.specs.declared.entries.Entry.{Entry};
+
+    ghost Value = { Entry };
+
+    ghost view = { λ r. record { user = r.user.items; seq = r.seq; kind = r.kind; value = r.value.items } };
+}
+
+impl EntryRoom {
+    /// Room with no memory yet, which holds an entry of no bytes.
+    pub fn new(alloc: Global) -> EntryRoom {
+        EntryRoom {
+            user: Vec::new(alloc),
+            seq: 0,
+            kind: Kind::Deletion,
+            value: Vec::new(alloc),
+        }
+    }
+
+    /// Reads the entry of a line without its line end. True exactly where it is an entry line; then the room holds its
+    /// entry. Else nothing is said of what the room holds.
+    ///
+    /// Takes memory only where the room is too small.
+    #[tactic(auto, unfolding(crate::specs::Texts::entry_of_line))]
+    pub fn read(&mut self, line: &[u8]) -> Result<bool, Memory>
+        ensures { IfOk result (λ is. (if is then Some self.new else None) ≡ texts.entry_of_line line.now) }
+    {
+        match fields_of(line) {
+            None => Ok(false),
+            Some(fields) => self.read_fields(&fields),
+        }
+    }
+
+    /// The entry that it holds, lent until the next line is read. Takes no memory.
+    pub fn entry(&self) -> EntryView<'_>
+        ensures { entry_of result ≡ self.now }
+    {
+        EntryView {
+            user: self.user.as_slice(),
+            seq: self.seq,
+            kind: self.kind,
+            value: self.value.as_slice(),
+        }
+    }
+
+    /// Reads the entry of four fields.
+    #[tactic(auto, unfolding(crate::specs::Texts::entry_of_fields))]
+    fn read_fields(&mut self, fields: &Fields<'_>) -> Result<bool, Memory>
+        ensures { IfOk result (λ is. (if is then Some self.new else None) ≡ texts.entry_of_fields (seen fields.now)) }
+    {
+        self.seq = fields.seq;
+        self.kind = fields.kind;
+        if !read_bytes(&mut self.user, fields.user)? {
+            return Ok(false);
+        }
+        read_bytes(&mut self.value, fields.value)
     }
 }

@@ -1,11 +1,11 @@
 //! The fields that entry lines and call lines have in common: sequence numbers, and bytes in hex digits. The texts are
 //! this project's own.
-ghost use Rattle.std.specs.Prelude.{◌≡◌, ℕ, ◌<◌, ◌^◌, List, Option, Some, None, option_and_then, IfOk};
+ghost use Rattle.std.specs.Prelude.{◌≡◌, Some, None, if◌then◌else◌, option_and_then, IfOk};
+ghost use Rattle.std.specs.Result.{result_ok};
+ghost use Rattle.hex.specs.Hex.{decode_of};
 ghost use Rattle.sst_text.specs.Texts as texts;
 
-use hex::FromHexError;
-use sst_num::{Bytes, Memory};
-use std::alloc::Global;
+use sst_num::Memory;
 
 /// The first number past the sequence numbers.
 const SEQ_END: u64 = 1 << 56;
@@ -38,21 +38,30 @@ pub fn seq_field(field: &[u8]) -> Option<u64>
     }
 }
 
-/// The bytes of a field, where it is hex digits of either case or a dash, which stands for no bytes.
-pub fn bytes_field(alloc: Global, field: &[u8]) -> Result<Option<Bytes>, Memory>
-    ensures { IfOk result (λ bytes. bytes ≡ texts.bytes_field field.now) }
+/// Reads the bytes of a field into the room, where it is hex digits of either case or a dash, which stands for no bytes.
+/// True exactly where it is one of these; else nothing is said of the room.
+///
+/// Takes memory only where the room is too small.
+pub fn read_bytes(room: &mut Vec<u8>, field: &[u8]) -> Result<bool, Memory>
+    ensures { IfOk result (λ is. (if is then Some room.new.items else None) ≡ texts.bytes_field field.now) }
 {
     match field {
-        [] => Ok(None),
-        [c] => Ok(if *c == b'-' {
-            Some(Bytes::new(alloc))
-        } else {
-            None
-        }),
-        _ => match hex::decode(alloc, field) {
-            Ok(bytes) => Ok(Some(Bytes::from(bytes))),
-            Err(FromHexError::OutOfMemory) => Err(Memory),
-            Err(_) => Ok(None),
-        },
+        [] => Ok(false),
+        [c] => {
+            room.truncate(0);
+            Ok(*c == b'-')
+        }
+        _ => read_digits(room, field),
+    }
+}
+
+/// Reads the bytes of hex digits of either case into the room. True exactly where the field is such digits, two a byte.
+fn read_digits(room: &mut Vec<u8>, field: &[u8]) -> Result<bool, Memory>
+    ensures { IfOk result (λ is. (if is then Some room.new.items else None) ≡ result_ok (decode_of field.now)) }
+{
+    room.resize(field.len() / 2, 0)?;
+    match hex::decode_to_slice(field, room.as_mut_slice()) {
+        Ok(()) => Ok(true),
+        Err(_) => Ok(false),
     }
 }

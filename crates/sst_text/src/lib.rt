@@ -29,7 +29,7 @@
 //!
 //! - [`LineReader`] takes an input in pieces and finds each line, the first that is too long or has no end, or the end of
 //!   the input. Each byte is searched once, and past a line at most one piece is taken.
-//! - [`entry_of_line`] and [`call_of_line`] read exactly the lines that spell an entry or a call. What is written reads
+//! - [`EntryRoom::read`] and [`call_of_line`] read exactly the lines that spell an entry or a call. What is written reads
 //!   back ([`an_entry_line_reads_back`], [`a_call_line_reads_back`]), and a line that reads is the one that is written, but
 //!   for the case of its hex digits ([`an_entry_line_is_that_of_its_entry`], [`a_call_line_is_that_of_its_call`]).
 //! - [`put_reply_line`] appends the one line of a reply.
@@ -46,7 +46,7 @@ mod lines;
 mod reply_line;
 
 pub use call_line::{call_name, call_of_line};
-pub use entry_line::entry_of_line;
+pub use entry_line::EntryRoom;
 pub use fields::seq_field;
 pub use laws::{
     a_call_line_is_that_of_its_call, a_call_line_reads_back, an_entry_line_is_that_of_its_entry,

@@ -1,9 +1,11 @@
 //! The lines of an input added to a writer, one by one, up to the first that is refused.
 //!
-//! Of the input no more than one line and the piece around it is held at a time. The line's number is one
+//! Of the input no more than one line and the piece around it is held at a time, and no memory is taken for an entry but
+//! where it is longer than those before it. The line's number is one
 //! more than the count of the writer.
 ghost use Rattle.std.specs.Prelude.{◌≡◌, ◌≢◌, ℕ, ◌<◌, ◌≤◌, ◌^◌, List, [], length, Some, Ok, Err, IfOk, OnOk};
 ghost use Rattle.std.specs.Io.KnownBytes.{prepend_known};
+ghost use Rattle.sst_key.specs.Entry.{entry_of};
 ghost use Rattle.sst_key.specs.declared.entries.Entry.{Entry};
 ghost use Rattle.sst_bbt_write.specs.After.{After};
 ghost use Rattle.sst_cli.specs.InputReading as reading;
@@ -20,9 +22,9 @@ ghost use Rattle.sst_device.specs.declared.folder.DevStop.TheVariants as device;
 use crate::input::refusal::{Reason, Refusal};
 use sst_bbt_write::BbtWriter;
 use sst_device::{DevStop, Intake};
-use sst_key::{Entry, EntryView};
+use sst_key::EntryView;
 use sst_num::{Memory, Refused};
-use sst_text::{Found, LineReader, entry_of_line};
+use sst_text::{EntryRoom, Found, LineReader};
 use std::alloc::Global;
 
 /// Why the input of a command gave nothing.
@@ -84,38 +86,32 @@ pub fn next_line<I: Intake>(
 /// Adds an entry, which stands in the line of this number, to the writer.
 fn add_entry(
     writer: &mut BbtWriter,
-    entry: &Entry,
+    e: EntryView<'_>,
     number: u64,
     file: &mut Vec<u8>,
 ) -> Result<(), InputStop>
-    requires seq { entry.now.seq < 2 ^ 56 }
+    requires seq { e.seq < 2 ^ 56 }
     requires writer { (options : BbtOptions) × (entries : List Entry) × (bytes : List ℕ) × After writer.old options entries bytes }
     ensures ok { OnOk result ((options : BbtOptions) (entries : List Entry) (bytes line : List ℕ) → After writer.old options entries bytes
-        → reading.read_line entries line ≡ reading.by_entry entries (Some entry.now)
+        → reading.read_line entries line ≡ reading.by_entry entries (Some (entry_of e.entry))
         → HasAdded options entries bytes line writer.new file.old.items file.new.items) }
     ensures refused { (refusal : Refusal) → result ≡ Err (InputStop.Refused refusal)
         → (options : BbtOptions) (entries : List Entry) (bytes line : List ℕ) → After writer.old options entries bytes
-        → reading.read_line entries line ≡ reading.by_entry entries (Some entry.now)
+        → reading.read_line entries line ≡ reading.by_entry entries (Some (entry_of e.entry))
         → IsRefused (reading.read_line entries line) number refusal }
     ensures failed { result ≢ Err (InputStop.Device DevStop.Failed) }
 {
-    let view = EntryView {
-        user: entry.user.as_slice(),
-        seq: entry.seq,
-        kind: entry.kind,
-        value: entry.value.as_slice(),
-    };
-    match writer.add(view, file) {
+    match writer.add(e, file) {
         Ok(()) => Ok(()),
         Err(Refused::Cause(fault)) => Err(refused(number, Reason::Refused(fault))),
         Err(Refused::Memory) => Err(InputStop::Device(DevStop::Memory)),
     }
 }
 
-/// Adds the entry of a line, which has this number, to the writer.
+/// Adds the entry of a line, which has this number, to the writer. `room` is room for it.
 pub fn add_line(
-    alloc: Global,
     writer: &mut BbtWriter,
+    room: &mut EntryRoom,
     line: &[u8],
     number: u64,
     file: &mut Vec<u8>,
@@ -129,9 +125,10 @@ pub fn add_line(
         → IsRefused (reading.read_line entries line.now) number refusal }
     ensures failed { result ≢ Err (InputStop.Device DevStop.Failed) }
 {
-    match entry_of_line(alloc, line)? {
-        None => Err(refused(number, Reason::Line)),
-        Some(entry) => add_entry(writer, &entry, number, file),
+    if room.read(line)? {
+        add_entry(writer, room.entry(), number, file)
+    } else {
+        Err(refused(number, Reason::Line))
     }
 }
 
@@ -155,12 +152,13 @@ pub fn add_lines<I: Intake>(
     ensures faults { CountsFaults (result ≡ Err (InputStop.Device DevStop.Failed)) (I.faults input.old) (I.faults input.new) }
 {
     let mut lines = LineReader::new(alloc);
+    let mut room = EntryRoom::new(alloc);
     loop {
         let number = writer.count() + 1;
         match next_line(&mut lines, input, number)? {
             None => return Ok(()),
             Some(n) => {
-                add_line(alloc, writer, lines.front(n), number, file)?;
+                add_line(writer, &mut room, lines.front(n), number, file)?;
                 lines.pass(n);
             }
         }
