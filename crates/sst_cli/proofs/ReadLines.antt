@@ -15,37 +15,24 @@ use Rattle.sst_text.specs.Texts.{entry_of_line}
 use Rattle.sst_cli.specs.InputReading.{read_line, by_entry, by_reason, refused_at}
 use Rattle.sst_cli.specs.ReadingResult.{HasAdded, IsRefused}
 
--- an entry is what a view of its parts lends
-pub same_entry : (e : Entry) (user value : List ℕ) → user ≡ e.user → value ≡ e.value
-    → ◌≡◌ {A = Entry} (record { user = user; seq = e.seq; kind = e.kind; value = value }) e
-same_entry e user value a b = rw (a, b) refl
-
 -- what a line within its limit says
 pub read_line-short : (entries : List Entry) (line : List ℕ) → length line ≤ 40000000 → read_line entries line ≡ by_entry entries (entry_of_line line)
 unfolding read_line
 read_line-short entries line short = rw (le-ltb 40000000 (length line) short) refl
 
 -- an entry that the writer took
-pub entry_added : (options : BbtOptions) (entries : List Entry) (bytes line : List ℕ) (e seen : Entry) (writer : BbtWriter) (old new piece : List ℕ)
-    → read_line entries line ≡ by_entry entries (Some e) → seen ≡ e → reason entries seen ≡ None
-    → new ≡ old ++ piece → After writer options (entries ++ seen ∷ []) (bytes ++ piece) → HasAdded options entries bytes line writer old new
-entry_added options entries bytes line e seen writer old new piece reads same good put after =
-    let good_e : reason entries e ≡ None = ap (reason entries) (sym same) ∙ good in
-    record {
-      entry = e;
-      reads = reads ∙ ap (by_reason e) good_e;
-      piece = piece;
-      put = put;
-      after = subst (λ (x : Entry). After writer options (entries ++ x ∷ []) (bytes ++ piece)) same after;
-    }
+pub entry_added : (options : BbtOptions) (entries : List Entry) (bytes line : List ℕ) (e : Entry) (writer : BbtWriter) (old new piece : List ℕ)
+    → read_line entries line ≡ by_entry entries (Some e) → reason entries e ≡ None
+    → new ≡ old ++ piece → After writer options (entries ++ e ∷ []) (bytes ++ piece) → HasAdded options entries bytes line writer old new
+entry_added options entries bytes line e writer old new piece reads good put after =
+    record { entry = e; reads = reads ∙ ap (by_reason e) good; piece = piece; put = put; after = after }
 
 -- an entry that the writer refused
-pub entry_refused : (entries : List Entry) (line : List ℕ) (e seen : Entry) (fault : WriteFault) (number : ℕ) (answer : InputStop) (refusal : Refusal)
-    → read_line entries line ≡ by_entry entries (Some e) → seen ≡ e → reason entries seen ≡ Some fault
+pub entry_refused : (entries : List Entry) (line : List ℕ) (e : Entry) (fault : WriteFault) (number : ℕ) (answer : InputStop) (refusal : Refusal)
+    → read_line entries line ≡ by_entry entries (Some e) → reason entries e ≡ Some fault
     → answer ≡ stop.Refused (refused_at number (why.Refused fault)) → answer ≡ stop.Refused refusal → IsRefused (read_line entries line) number refusal
-entry_refused entries line e seen fault number answer refusal reads same given said is =
-    let given_e : reason entries e ≡ Some fault = ap (reason entries) (sym same) ∙ given in
-    record { why = why.Refused fault; reads = reads ∙ ap (by_reason e) given_e; said = cc }
+entry_refused entries line e fault number answer refusal reads given said is =
+    record { why = why.Refused fault; reads = reads ∙ ap (by_reason e) given; said = cc }
 
 -- a line that isn't an entry line
 pub line_refused : (entries : List Entry) (line : List ℕ) (number : ℕ) (answer : InputStop) (refusal : Refusal)
