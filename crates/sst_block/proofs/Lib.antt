@@ -25,3 +25,5 @@ pub mod Size
 pub mod Steps
 pub mod Walking
 pub mod Accepted
+pub mod Tails
+pub mod KeyRooms

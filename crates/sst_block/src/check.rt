@@ -96,17 +96,17 @@ pub fn rows_of<'b>(block: &'b [u8]) -> &'b [u8]
 }
 
 /// Goes through the rows once. Answers how many there are, and how many restarts aren't met at their end, or the
-/// first fault of a row.
+/// first fault of a row. `key` holds the key of the row before, and `tail` is room that the order is looked at in.
 fn check_rows(
     form: RowForm,
     rows: &[u8],
     mut restarts: Restarts,
-    mut before: KeyRoom,
-    mut next: KeyRoom,
+    mut key: KeyRoom,
+    mut tail: KeyRoom,
 ) -> Result<(u32, usize), BlockFault>
     requires short { length rows.now ≤ 2 ^ 29 }
     requires whole { 4 * restarts.missing ≤ length restarts.left.now }
-    requires none { before ≡ [] }
+    requires none { key ≡ [] }
     ensures { result ≡ rows_counted form (open_of restarts.entry) rows.now }
 {
     let mut left = rows;
@@ -114,14 +114,13 @@ fn check_rows(
     let mut count: u32 = 0;
     let mut first = true;
     while !left.is_empty() {
-        let l = read_row(form, at, first, &before, &mut next, left)?;
+        let l = read_row(form, at, first, &mut key, &mut tail, left)?;
         meet_row(&mut restarts, l.shared, at);
         let row = split_row(left, l);
         at += (left.len() - row.after.len()) as u32;
         left = row.after;
         count += 1;
         first = false;
-        std::mem::swap(&mut before, &mut next);
     }
     Ok((count, restarts.missing))
 }
@@ -133,13 +132,13 @@ fn check_parts(
     rows: &[u8],
     places: &[u8],
     count: u32,
-    before: KeyRoom,
-    next: KeyRoom,
+    key: KeyRoom,
+    tail: KeyRoom,
 ) -> Result<u32, Refused<BlockFault>>
     requires short { length rows.now ≤ 2 ^ 29 }
     requires some { 0 < count }
     requires whole { 4 * count ≤ length places.now }
-    requires none { before ≡ [] }
+    requires none { key ≡ [] }
     ensures { Gives result (then_read (rows_read form rows.now) (with_restarts count places.now)) }
 {
     let (_, left) = places.split_at(NUMBER_LENGTH);
@@ -148,7 +147,7 @@ fn check_parts(
         missing: count as usize - 1,
         last: 0,
     };
-    let (found, missing) = match check_rows(form, rows, restarts, before, next) {
+    let (found, missing) = match check_rows(form, rows, restarts, key, tail) {
         Ok(counts) => counts,
         Err(fault) => return Err(Refused::Cause(fault)),
     };
@@ -171,10 +170,10 @@ fn count_rows(alloc: Global, block: &[u8], form: RowForm) -> Result<u32, Refused
     let Some(count) = restart_count(block) else {
         return Err(Refused::Cause(BlockFault::BadFooter));
     };
-    let before = KeyRoom::new(alloc)?;
-    let next = KeyRoom::new(alloc)?;
+    let key = KeyRoom::new(alloc)?;
+    let tail = KeyRoom::new(alloc)?;
     let (rows, places) = split_block(block, count);
-    check_parts(form, rows, places, count, before, next)
+    check_parts(form, rows, places, count, key, tail)
 }
 
 /// Checks a block of rows of the form, and answers how many rows it has.
@@ -185,8 +184,8 @@ fn count_rows(alloc: Global, block: &[u8], form: RowForm) -> Result<u32, Refused
 /// lengths come first, then that the key has a tag, then its kind or the handle that is its value, then its order. The
 /// block may share less than it could, and may have restarts at any rows that share nothing.
 ///
-/// The rows are gone through once, in a time that grows with the block and with the lengths of its keys. Room for two
-/// keys is taken at the start, and no memory after; it fails where that runs out. RocksDB: `Block::NumRestarts` and
+/// The rows are gone through once, in a time linear in the block's bytes, however much of their keys they share. Room for
+/// two keys is taken at the start, and no memory after; it fails where that runs out. RocksDB: `Block::NumRestarts` and
 /// `DataBlockIter` in table/block_based/block.cc, which check less.
 pub fn check_block(alloc: Global, block: &[u8], form: RowForm) -> Result<u32, Refused<BlockFault>>
     requires short { length block.now ≤ 2 ^ 29 }

@@ -1,8 +1,9 @@
 //! One row of a block: its lengths, its key and its value, and what can be wrong with them.
-ghost use Rattle.std.specs.Prelude.{◌≡◌, ◌⊎◌, ℕ, ◌+◌, ◌<◌, ◌≤◌, ◌^◌, true, false, List, [], ◌++◌, length, take, drop, IfSome, IfNone, IfOk, IfErr, Ok, Err, option_map};
+ghost use Rattle.std.specs.Prelude.{◌≡◌, ◌⊎◌, ℕ, ◌+◌, ◌<◌, ◌≤◌, ◌^◌, true, false, not, ◌&&◌, nat_lt, if◌then◌else◌, List, [], ◌++◌, length, take, drop, None, Some, IfSome, IfNone, IfOk, IfErr, Ok, Err, option_map};
 ghost use Rattle.sst_block.specs.Block as blocks;
 ghost use Rattle.sst_block.specs.BlockReading as reading;
-ghost use Rattle.sst_block.specs.BlockReading.{then_read, lengths_at, row_at, row_fault, row_read};
+ghost use Rattle.sst_block.specs.BlockReading.{then_read, lengths_at, row_at, or_fault, row_read};
+ghost use Rattle.sst_block.specs.declared.fault.BlockFault.TheVariants.{Disorder};
 ghost use Rattle.sst_block.specs.Rows.{numbers, spelled_lengths, key_held, row_lent, FitsIn, IsLongEnough, row_length};
 
 use crate::fault::BlockFault;
@@ -128,38 +129,16 @@ fn key_cmp(form: RowForm, a: &[u8], b: &[u8]) -> Ordering
     }
 }
 
-/// The key is after the one before, if there is one.
-fn is_after(form: RowForm, first: bool, before: &[u8], key: &[u8]) -> bool
-    requires before { first ≡ false → IsLongEnough form before.now }
-    requires key { IsLongEnough form key.now }
-    ensures { result ≡ reading.is_after form (key_held first before.now) key.now }
+/// The first fault of a row whose lengths are good: what the form says comes first, then the order. `after` says whether
+/// its key is after the one before.
+fn fault_of_row(form: RowForm, at: u32, after: bool, key: &[u8], value: &[u8]) -> Option<BlockFault>
+    ensures { result ≡ or_fault (reading.form_fault form at (record { key = key.now; value = value.now }))
+        (if after then None else Some (Disorder at)) }
 {
-    if first {
-        return true;
-    }
-    key_cmp(form, before, key).is_lt()
-}
-
-/// The first fault of a row whose lengths are good.
-fn fault_of_row(
-    form: RowForm,
-    at: u32,
-    first: bool,
-    before: &[u8],
-    key: &[u8],
-    value: &[u8],
-) -> Option<BlockFault>
-    requires before { first ≡ false → IsLongEnough form before.now }
-    ensures exact { result ≡ row_fault form at (key_held first before.now) (record { key = key.now; value = value.now }) }
-    ensures long { IfNone result (IsLongEnough form key.now) }
-{
-    if has_tag(form) && key.len() < TAG_LENGTH {
-        return Some(BlockFault::BadRow(at));
-    }
     match form_fault(form, at, key, value) {
         Some(fault) => Some(fault),
         None => {
-            if is_after(form, first, before, key) {
+            if after {
                 None
             } else {
                 Some(BlockFault::Disorder(at))
@@ -192,41 +171,97 @@ pub fn split_row<'b>(bytes: &'b [u8], l: Lengths) -> Parts<'b>
     Parts { rest, value, after }
 }
 
-/// Makes the key in `next` of the front of the key before and the rest of it.
-fn join_key(next: &mut KeyRoom, before: &[u8], shared: usize, rest: &[u8])
-    requires shared { shared ≤ length before.now }
-    requires fits { shared + length rest.now ≤ 65544 }
-    ensures { next.new ≡ take shared before.now ++ rest.now }
+/// The bytes from a place on.
+fn bytes_from(bytes: &[u8], place: usize) -> &[u8]
+    requires { place ≤ length bytes.now }
+    ensures { result.now ≡ drop place bytes.now }
 {
-    let (front, _) = before.split_at(shared);
-    next.set(0, front);
-    next.set(shared, rest);
+    let (_, from) = bytes.split_at(place);
+    from
 }
 
-/// Reads the row at the front, whose key `next` holds then. `before` holds the key before, or none where the row
-/// is the first; `at` is where the row begins.
+/// Where the tails begin that say which of two keys comes first: behind the bytes that they share, but before the tag of
+/// either, so that no tag is cut. `before` and `key` are the lengths of the keys.
+fn tails_begin(form: RowForm, shared: usize, before: usize, key: usize) -> usize
+    requires front { (shared ≤ before) × (shared ≤ key) }
+    requires tags { reading.has_tag form ≡ true → (8 ≤ before) × (8 ≤ key) }
+    ensures within { result ≤ shared }
+    ensures near { shared ≤ result + 8 }
+    ensures whole { reading.has_tag form ≡ true → (result + 8 ≤ before) × (result + 8 ≤ key) }
+{
+    if has_tag(form) {
+        shared.min(before - TAG_LENGTH).min(key - TAG_LENGTH)
+    } else {
+        shared
+    }
+}
+
+/// Makes `key` the key of the next row, of which the first `shared` bytes stay and the rest is new. Answers whether it is
+/// after the one before, if there is one.
+///
+/// The keys begin with the same bytes, so their tails decide. Of the key before it is kept in `tail`: what the row drops of
+/// that key, and eight bytes more at most. So the time that all rows of a block take is linear in their bytes, however
+/// long the keys are that they share.
+fn change_key(
+    form: RowForm,
+    first: bool,
+    key: &mut KeyRoom,
+    tail: &mut KeyRoom,
+    shared: usize,
+    rest: &[u8],
+) -> bool
+    requires shared { shared ≤ length key.old }
+    requires fits { (length key.old ≤ 65544) × (shared + length rest.now ≤ 65544) }
+    requires before { first ≡ false → IsLongEnough form key.old }
+    requires next { reading.has_tag form ≡ true → 8 ≤ shared + length rest.now }
+    ensures key { key.new ≡ take shared key.old ++ rest.now }
+    ensures after { result ≡ reading.is_after form (key_held first key.old) (take shared key.old ++ rest.now) }
+{
+    if first {
+        key.set(shared, rest);
+        return true;
+    }
+    let place = tails_begin(form, shared, key.bytes().len(), shared + rest.len());
+    tail.set(0, bytes_from(key.bytes(), place));
+    key.set(shared, rest);
+    key_cmp(form, tail.bytes(), bytes_from(key.bytes(), place)).is_lt()
+}
+
+/// A key of this length has room for the tag that the form's keys have.
+fn has_room_for_tag(form: RowForm, length: usize) -> bool
+    ensures { result ≡ not (reading.has_tag form && nat_lt length 8) }
+{
+    !has_tag(form) || TAG_LENGTH <= length
+}
+
+/// Reads the row at the front, and makes `key`, which holds the key before, its key: none where the row is the first.
+/// `at` is where the row begins, and `tail` is room that the order is looked at in.
 #[tactic(auto, unfolding(crate::specs::BlockReading::row_read))]
 pub fn read_row(
     form: RowForm,
     at: u32,
     first: bool,
-    before: &KeyRoom,
-    next: &mut KeyRoom,
+    key: &mut KeyRoom,
+    tail: &mut KeyRoom,
     bytes: &[u8],
 ) -> Result<Lengths, BlockFault>
-    requires before { first ≡ false → IsLongEnough form before.now }
-    requires none { first ≡ true → before.now ≡ [] }
-    ensures exact { then_read result (λ l. Ok (row_lent before.now bytes.now l)) ≡ row_read form at (key_held first before.now) bytes.now }
-    ensures within { IfOk result (λ l. FitsIn (length before.now) (length bytes.now) l) }
-    ensures key { IfOk result (λ l. next.new ≡ (row_lent before.now bytes.now l).0.row.key) }
-    ensures long { IfOk result (λ l. IsLongEnough form next.new) }
+    requires short { length key.old ≤ 65544 }
+    requires before { first ≡ false → IsLongEnough form key.old }
+    requires none { first ≡ true → key.old ≡ [] }
+    ensures exact { then_read result (λ l. Ok (row_lent key.old bytes.now l)) ≡ row_read form at (key_held first key.old) bytes.now }
+    ensures within { IfOk result (λ l. FitsIn (length key.old) (length bytes.now) l) }
+    ensures key { IfOk result (λ l. key.new ≡ (row_lent key.old bytes.now l).0.row.key) }
+    ensures long { IfOk result (λ l. IsLongEnough form key.new) }
 {
-    let Some(l) = row_lengths(before.bytes(), bytes) else {
+    let Some(l) = row_lengths(key.bytes(), bytes) else {
         return Err(BlockFault::BadRow(at));
     };
+    if !has_room_for_tag(form, l.shared + l.rest) {
+        return Err(BlockFault::BadRow(at));
+    }
     let row = split_row(bytes, l);
-    join_key(next, before.bytes(), l.shared, row.rest);
-    match fault_of_row(form, at, first, before.bytes(), next.bytes(), row.value) {
+    let after = change_key(form, first, key, tail, l.shared, row.rest);
+    match fault_of_row(form, at, after, key.bytes(), row.value) {
         Some(fault) => Err(fault),
         None => Ok(l),
     }
