@@ -228,15 +228,15 @@ restarts_fault fresh (suc n) bytes =
 
 -- the rows, if the restarts have no damage
 -- Own.
-abbrev pub with_restarts : ℕ → List ℕ → List Spelled → Result (List Spelled) BlockFault
-with_restarts count bytes spelled = unless spelled (restarts_fault (fresh_starts 0 spelled) count bytes)
+abbrev pub with_restarts : RowForm → ℕ → List ℕ → List Spelled → Result (List Spelled) BlockFault
+with_restarts form count bytes spelled = unless spelled (restarts_fault (fresh_starts form 0 spelled) count bytes)
 
 -- the rows before so many restarts, or the first damage
 -- Own.
 abbrev pub parts_read : RowForm → List ℕ → Option ℕ → Result (List Spelled) BlockFault
 parts_read form bytes None = Err BadFooter
 parts_read form bytes (Some count) =
-    then_read (rows_read form (take (rows_end bytes count) bytes)) (with_restarts count (drop (rows_end bytes count) bytes))
+    then_read (rows_read form (take (rows_end bytes count) bytes)) (with_restarts form count (drop (rows_end bytes count) bytes))
 
 -- the rows of a block, or its first damage: of the footer, the rows, the restarts
 -- Own.

@@ -29,7 +29,7 @@ pub record Takes (b : PropsBuilder) (pair : Row) : Type 0 where
   pub short_name : length pair.key ≤ 65544
   pub after : AreOrdered Names (pairs ++ pair ∷ [])
   pub few : length pairs < 65536
-  pub short : length (block_of 65536 (pairs ++ pair ∷ [])) < 2 ^ 29
+  pub short : length (block_of Names 65536 (pairs ++ pair ∷ [])) < 2 ^ 29
 
 -- a builder that has failed refuses each pair, and any other takes those that may come next
 -- Own.
