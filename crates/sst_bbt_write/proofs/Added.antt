@@ -86,7 +86,7 @@ data_takes b entries e key value holds fits key_is value_is =
       holds = holds;
       has_form = row_of-is_row e (All-last IsInLimits entries e fits.limits);
       ordered = subst (λ (r : List Row). AreOrdered Entries r) rows (rows_of-ordered (entries ++ e ∷ []) fits.limits fits.ordered);
-      short = subst (λ (r : List Row). length (block_of 16 r) < 2 ^ 29) rows (rows_of-short (entries ++ e ∷ []) fits.light);
+      short = subst (λ (r : List Row). length (block_of Entries 16 r) < 2 ^ 29) rows (rows_of-short (entries ++ e ∷ []) fits.light);
     }) in
     subst (λ (k : List ℕ). CanAdd b (record { key = k; value = value })) (sym key_is)
     (subst (λ (v : List ℕ). CanAdd b (record { key = key_of e; value = v })) (sym value_is) takes)

@@ -58,7 +58,7 @@ rest-room w cut entries bytes index n kept index_is long =
     let at : w.data_size ≡ length (data_part cut.ended) = kept.data_size ∙ ap length kept.appended in
     let sum = ap weight kept.joined ∙ weight-both (entries_in cut.ended) cut.current in
     let light = kept.fits.light in
-    omega (arith, data_part-le cut.ended kept.filled, index-room 0 cut.ended kept.filled, block_of-le 1 (index_rows 0 cut.ended))
+    omega (arith, data_part-le cut.ended kept.filled, index-room 0 cut.ended kept.filled, block_of-le (Index false false) 1 (index_rows 0 cut.ended))
 
 -- what is put behind the data blocks is what stands there
 pub rest-is : (cut : Blocks) (entries : List Entry) (index : List ℕ) (sizes : Sizes) → index ≡ index_block cut.ended → sizes ≡ sizes_of cut.ended entries

@@ -100,7 +100,7 @@ index_rows-more blocks block =
 
 -- a data block takes no more than it weighs, and eight bytes
 pub data-le : (block : List Entry) → length (data_block block) ≤ weight block + 8
-data-le block = omega (arith, block_of-le 16 (rows_of block), rows_of-room block)
+data-le block = omega (arith, block_of-le Entries 16 (rows_of block), rows_of-room block)
 
 some-weight : (block : List Entry) → 0 < length block → 64 ≤ weight block
 some-weight [] some = absurd (omega arith)

@@ -54,7 +54,7 @@ index_rows-forms at ((e ∷ block) ∷ rest) some fits low =
     (index_rows-forms (at + stored_length (data_block (e ∷ block))) rest some.1 (fits-back (e ∷ block) (entries_in rest) fits) (omega arith))
 
 pub index_block-short : (blocks : List (List Entry)) → HaveEntries blocks → Fits (entries_in blocks) → length (index_block blocks) ≤ 2 ^ 28 + 8
-index_block-short blocks some fits = omega (arith, block_of-le 1 (index_rows 0 blocks), index-room 0 blocks (filled blocks some), fits.light)
+index_block-short blocks some fits = omega (arith, block_of-le (Index false false) 1 (index_rows 0 blocks), index-room 0 blocks (filled blocks some), fits.light)
 
 -- the index block stands for the index rows
 pub index_block-is : (blocks : List (List Entry)) → HaveEntries blocks → Fits (entries_in blocks) → Block (Index false false) (index_block blocks) (index_rows 0 blocks)

@@ -37,7 +37,7 @@ properties-room sizes =
     )
 
 pub properties-short : (sizes : Sizes) → length (props_for (properties sizes)) ≤ 1508
-properties-short sizes = omega (arith, properties-room sizes, block_of-le 65536 (properties sizes))
+properties-short sizes = omega (arith, properties-room sizes, block_of-le Names 65536 (properties sizes))
 
 -- rows that take few bytes may stand in a block of names
 few-forms : (rows : List Row) → sum_by row_room rows ≤ 65544 → All (IsRow Names) rows

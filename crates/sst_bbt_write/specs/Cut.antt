@@ -6,6 +6,7 @@
 -- Pinned by: a_list_is_cut_where_blocks_are_full
 use Rattle.std.specs.Prelude.{◌≡◌, ℕ, ◌<◌, ◌&&◌, nat_lt, nat_le, Bool, if◌then◌else◌, List, [], ◌∷◌, ◌++◌, length, IsTrue}
 use Rattle.sst_key.specs.declared.entries.Entry.{Entry}
+use Rattle.sst_block.specs.declared.row_form.RowForm.TheVariants.{Entries}
 use Rattle.sst_block.specs.Chosen.{block_of}
 use Rattle.sst_bbt_spec.specs.Rows.{rows_of}
 
@@ -13,7 +14,7 @@ use Rattle.sst_bbt_spec.specs.Rows.{rows_of}
 -- Own choice.
 -- Pinned by: second_and_third_restarts
 abbrev pub data_block : List Entry → List ℕ
-data_block entries = block_of 16 (rows_of entries)
+data_block entries = block_of Entries 16 (rows_of entries)
 
 -- the blocks that were ended, and the entries of the one that wasn't
 -- Own.

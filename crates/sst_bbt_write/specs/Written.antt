@@ -3,12 +3,13 @@
 -- and MetaIndexBuilder in table/meta_blocks.cc. The choices are this project's own. For now each separator is the last key
 -- of its block.
 -- Pinned by: forty_entries
-use Rattle.std.specs.Prelude.{◌≡◌, ℕ, ◌+◌, ◌≤◌, List, [], ◌∷◌, ◌++◌, length, sum_by, All}
+use Rattle.std.specs.Prelude.{◌≡◌, ℕ, ◌+◌, ◌≤◌, false, List, [], ◌∷◌, ◌++◌, length, sum_by, All}
 use Rattle.std.specs.List.{flat_map}
 use Rattle.sst_num.specs.Spelling.{fixed, varint, handle_spelling}
 use Rattle.sst_num.specs.declared.block_handle.Handle.{Handle}
 use Rattle.sst_key.specs.declared.entries.Entry.{Entry}
 use Rattle.sst_key.specs.Entry.{IsOrdered, weight, key_of}
+use Rattle.sst_block.specs.declared.row_form.RowForm.TheVariants.{Index}
 use Rattle.sst_block.specs.Block.{Row}
 use Rattle.sst_block.specs.Builder.{last_key}
 use Rattle.sst_block.specs.Chosen.{block_of}
@@ -65,7 +66,7 @@ index_rows at (block ∷ rest) = index_row at block ∷ index_rows (at + stored_
 -- Own choice.
 -- Pinned by: forty_entries, worked_files
 abbrev pub index_block : List (List Entry) → List ℕ
-index_block blocks = block_of 1 (index_rows 0 blocks)
+index_block blocks = block_of (Index false false) 1 (index_rows 0 blocks)
 
 -- the bytes of all internal keys, and of all values
 -- RocksDB: table_properties.h, raw_key_size, raw_value_size

@@ -9,8 +9,8 @@ use Rattle.sst_block.specs.Block.{Row, Spelled, Block, IsRow, AreOrdered, AreRes
 use Rattle.sst_block.specs.Chosen.{chosen, restarts_from, restarts_of, block_of}
 
 -- a row takes at least one byte
-pub row_spelling-some : (s : Spelled) → 0 < length (row_spelling s)
-row_spelling-some s = omega (arith, varint-some s.shared, length-append {A = ℕ})
+pub row_spelling-some : (form : RowForm) (s : Spelled) → 0 < length (row_spelling form s)
+row_spelling-some form s = omega (arith, varint-some s.shared, length-append {A = ℕ})
 
 -- the rows that are spelled are those that were given
 pub chosen-rows : (interval i : ℕ) (before : List ℕ) (rows : List Row) → map (λ (s : Spelled). s.row) (chosen interval i before rows) ≡ rows
@@ -32,12 +32,12 @@ All-one_if P true x holds = All-cons P x [] holds (All-nil P)
 All-one_if P false x holds = All-nil P
 
 -- no restart is before the first row
-restarts-above : (interval i at low : ℕ) (spelled : List Spelled) → low < at → All (λ r. low < r) (restarts_from interval i at spelled)
-restarts-above interval i at low [] h = All-nil (λ r. low < r)
-restarts-above interval i at low (s ∷ rest) h =
-    All-append (λ r. low < r) (if i % interval == 0 then at ∷ [] else []) (restarts_from interval (i + 1) (at + length (row_spelling s)) rest)
+restarts-above : (form : RowForm) (interval i at low : ℕ) (spelled : List Spelled) → low < at → All (λ r. low < r) (restarts_from form interval i at spelled)
+restarts-above form interval i at low [] h = All-nil (λ r. low < r)
+restarts-above form interval i at low (s ∷ rest) h =
+    All-append (λ r. low < r) (if i % interval == 0 then at ∷ [] else []) (restarts_from form interval (i + 1) (at + length (row_spelling form s)) rest)
     (All-one_if (λ r. low < r) (i % interval == 0) at h)
-    (restarts-above interval (i + 1) (at + length (row_spelling s)) low rest (omega arith))
+    (restarts-above form interval (i + 1) (at + length (row_spelling form s)) low rest (omega arith))
 
 -- a number below the first of an increasing list may stand at its front
 pub rises-cons : (x : ℕ) (xs : List ℕ) → (0 < length xs → x < get_or xs 0 0) → IsStrictlyIncreasing xs
@@ -52,13 +52,13 @@ rises-one_if true x xs above rises = rises-cons x xs (above 0 0) rises
 rises-one_if false x xs above rises = rises
 
 -- the restarts increase
-restarts-rise : (interval i at : ℕ) (spelled : List Spelled) → IsStrictlyIncreasing (restarts_from interval i at spelled)
-restarts-rise interval i at [] = λ k within. absurd (omega arith)
-restarts-rise interval i at (s ∷ rest) =
-    let some = row_spelling-some s in
-    rises-one_if (i % interval == 0) at (restarts_from interval (i + 1) (at + length (row_spelling s)) rest)
-    (restarts-above interval (i + 1) (at + length (row_spelling s)) at rest (omega arith))
-    (restarts-rise interval (i + 1) (at + length (row_spelling s)) rest)
+restarts-rise : (form : RowForm) (interval i at : ℕ) (spelled : List Spelled) → IsStrictlyIncreasing (restarts_from form interval i at spelled)
+restarts-rise form interval i at [] = λ k within. absurd (omega arith)
+restarts-rise form interval i at (s ∷ rest) =
+    let some = row_spelling-some form s in
+    rises-one_if (i % interval == 0) at (restarts_from form interval (i + 1) (at + length (row_spelling form s)) rest)
+    (restarts-above form interval (i + 1) (at + length (row_spelling form s)) at rest (omega arith))
+    (restarts-rise form interval (i + 1) (at + length (row_spelling form s)) rest)
 
 -- one row more: where it is a restart, it shares nothing
 fresh-one_if : (test : Bool) (at n : ℕ) (fresh restarts : List ℕ) → All (Contains fresh) restarts
@@ -70,36 +70,36 @@ fresh-one_if false at n fresh restarts among =
     All-weaker (Contains fresh) (Contains ((if n == 0 then at ∷ [] else []) ++ fresh)) (λ x. Contains-append_right (if n == 0 then at ∷ [] else []) fresh x) restarts among
 
 -- each restart is the start of a row that shares nothing
-restarts-fresh : (interval i at : ℕ) (before : List ℕ) (rows : List Row)
-    → All (Contains (fresh_starts at (chosen interval i before rows))) (restarts_from interval i at (chosen interval i before rows))
-restarts-fresh interval i at before [] = All-nil (Contains [])
-restarts-fresh interval i at before (row ∷ rows) =
+restarts-fresh : (form : RowForm) (interval i at : ℕ) (before : List ℕ) (rows : List Row)
+    → All (Contains (fresh_starts form at (chosen interval i before rows))) (restarts_from form interval i at (chosen interval i before rows))
+restarts-fresh form interval i at before [] = All-nil (Contains [])
+restarts-fresh form interval i at before (row ∷ rows) =
     let s : Spelled = record { shared = if i % interval == 0 then 0 else common before row.key; row = row } in
-    let next = at + length (row_spelling s) in
+    let next = at + length (row_spelling form s) in
     fresh-one_if (i % interval == 0) at (common before row.key)
-    (fresh_starts next (chosen interval (i + 1) row.key rows))
-    (restarts_from interval (i + 1) next (chosen interval (i + 1) row.key rows))
-    (restarts-fresh interval (i + 1) next row.key rows)
+    (fresh_starts form next (chosen interval (i + 1) row.key rows))
+    (restarts_from form interval (i + 1) next (chosen interval (i + 1) row.key rows))
+    (restarts-fresh form interval (i + 1) next row.key rows)
 
 -- the restarts that are chosen are restarts
-chosen-restarts : (interval : ℕ) (rows : List Row) → 0 < interval → AreRestarts (restarts_of interval (chosen interval 0 [] rows)) (chosen interval 0 [] rows)
-chosen-restarts interval [] h = refl
-chosen-restarts interval (row ∷ rows) h =
+chosen-restarts : (form : RowForm) (interval : ℕ) (rows : List Row) → 0 < interval → AreRestarts form (restarts_of form interval (chosen interval 0 [] rows)) (chosen interval 0 [] rows)
+chosen-restarts form interval [] h = refl
+chosen-restarts form interval (row ∷ rows) h =
     let first = zero-mod interval in
-    (rw first refl, restarts-rise interval 0 0 (chosen interval 0 [] (row ∷ rows)), restarts-fresh interval 0 0 [] (row ∷ rows))
+    (rw first refl, restarts-rise form interval 0 0 (chosen interval 0 [] (row ∷ rows)), restarts-fresh form interval 0 0 [] (row ∷ rows))
 
 -- each part of what a block is, of the block that is chosen
-pub block_of_is_block : (form : RowForm) (interval : ℕ) (rows : List Row) → 0 < interval → All (IsRow form) rows → AreOrdered form rows → length (block_of interval rows) ≤ 2 ^ 29 → Block form (block_of interval rows) rows
+pub block_of_is_block : (form : RowForm) (interval : ℕ) (rows : List Row) → 0 < interval → All (IsRow form) rows → AreOrdered form rows → length (block_of form interval rows) ≤ 2 ^ 29 → Block form (block_of form interval rows) rows
 unfolding block_of
 block_of_is_block form interval rows positive forms ordered short =
     let spelled = chosen interval 0 [] rows in
     record {
       spelled = spelled;
-      restarts = restarts_of interval spelled;
+      restarts = restarts_of form interval spelled;
       are_rows = chosen-rows interval 0 [] rows;
       spelling = refl;
       fronts = chosen-fronts interval 0 [] rows;
-      places = chosen-restarts interval rows positive;
+      places = chosen-restarts form interval rows positive;
       forms = forms;
       ordered = ordered;
       short = short;

@@ -28,7 +28,7 @@ count-footer xs ys count size some fits = record {
 
 -- what is read of rows, of restarts and of their count
 read-parts : (form : RowForm) (xs ys : List ℕ) (count : ℕ) (spelled : List Spelled) → length ys ≡ 4 * count → 0 < count → count < 2 ^ 32
-    → rows_read form xs ≡ Ok spelled → restarts_fault (fresh_starts 0 spelled) count (ys ++ fixed 4 count) ≡ None
+    → rows_read form xs ≡ Ok spelled → restarts_fault (fresh_starts form 0 spelled) count (ys ++ fixed 4 count) ≡ None
     → block_read form (xs ++ (ys ++ fixed 4 count)) ≡ Ok spelled
 unfolding block_read
 read-parts form xs ys count spelled size some fits reads none =
@@ -39,18 +39,18 @@ read-parts form xs ys count spelled size some fits reads none =
     let front : take (rows_end bytes count) bytes ≡ xs = take_at xs tail (rows_end bytes count) end in
     let back : drop (rows_end bytes count) bytes ≡ tail = drop_at xs tail (rows_end bytes count) end in
     ap (parts_read form bytes) (footer-read bytes count (count-footer xs ys count size some fits))
-    ∙ ap (λ (t : List ℕ). then_read (rows_read form t) (with_restarts count (drop (rows_end bytes count) bytes))) front
-    ∙ ap (λ (r : Result (List Spelled) BlockFault). then_read r (with_restarts count (drop (rows_end bytes count) bytes))) reads
-    ∙ ap (λ (d : List ℕ). with_restarts count d spelled) back
+    ∙ ap (λ (t : List ℕ). then_read (rows_read form t) (with_restarts form count (drop (rows_end bytes count) bytes))) front
+    ∙ ap (λ (r : Result (List Spelled) BlockFault). then_read r (with_restarts form count (drop (rows_end bytes count) bytes))) reads
+    ∙ ap (λ (d : List ℕ). with_restarts form count d spelled) back
     ∙ ap (unless spelled) none
 
 -- rows and restarts that keep the rules are read again
 read-again : (form : RowForm) (spelled : List Spelled) (rest : List ℕ) → HasNoFlags form → Follows form None spelled
-    → Rises (fresh_starts 0 spelled) 0 rest → length (flat_map row_spelling spelled ++ restarts_spelling (0 ∷ rest)) ≤ 2 ^ 29
-    → block_read form (flat_map row_spelling spelled ++ restarts_spelling (0 ∷ rest)) ≡ Ok spelled
+    → Rises (fresh_starts form 0 spelled) 0 rest → length (flat_map (row_spelling form) spelled ++ restarts_spelling (0 ∷ rest)) ≤ 2 ^ 29
+    → block_read form (flat_map (row_spelling form) spelled ++ restarts_spelling (0 ∷ rest)) ≡ Ok spelled
 unfolding rows_read
 read-again form spelled rest plain follows rises short =
-    let xs = flat_map row_spelling spelled in
+    let xs = flat_map (row_spelling form) spelled in
     let restarts = 0 ∷ rest in
     let ys = flat_map (fixed 4) restarts in
     let count = length restarts in
@@ -58,9 +58,9 @@ read-again form spelled rest plain follows rises short =
     let whole : length (xs ++ restarts_spelling restarts) ≡ length xs + 4 * count + 4 =
     length-append xs (restarts_spelling restarts) ∙ omega (arith, length-append ys (fixed 4 count), size) in
     let reads = rows_from-spelled form spelled (length xs) 0 None plain follows (omega arith) (omega arith) in
-    let fit = restarts-within (2 ^ 32) rest spelled rises (omega arith) in
+    let fit = restarts-within form (2 ^ 32) rest spelled rises (omega arith) in
     read-parts form xs ys count spelled size (omega arith) (omega arith) reads
-    (restarts_fault-spelled (fresh_starts 0 spelled) rest (fixed 4 count) rises fit)
+    (restarts_fault-spelled (fresh_starts form 0 spelled) rest (fixed 4 count) rises fit)
 
 -- what a block has is read
 pub read-complete : (form : RowForm) (bytes : List ℕ) (rows : List Row) → HasNoFlags form → Block form bytes rows → Reads form bytes rows
@@ -69,9 +69,9 @@ read-complete form bytes rows plain block =
     let forms = subst (λ (all : List Row). All (IsRow form) all) same block.forms in
     let ordered = subst (λ (all : List Row). AreOrdered form all) same block.ordered in
     let follows = all-follow form block.spelled block.fronts forms ordered in
-    let parts = restarts-parts block.restarts block.spelled block.places in
-    let spelling : bytes ≡ flat_map row_spelling block.spelled ++ restarts_spelling (0 ∷ parts.0) =
-    block.spelling ∙ ap (λ (restarts : List ℕ). flat_map row_spelling block.spelled ++ restarts_spelling restarts) parts.1 in
+    let parts = restarts-parts form block.restarts block.spelled block.places in
+    let spelling : bytes ≡ flat_map (row_spelling form) block.spelled ++ restarts_spelling (0 ∷ parts.0) =
+    block.spelling ∙ ap (λ (restarts : List ℕ). flat_map (row_spelling form) block.spelled ++ restarts_spelling restarts) parts.1 in
     let short = subst (λ (all : List ℕ). length all ≤ 2 ^ 29) spelling block.short in
     record {
       spelled = block.spelled;
@@ -81,16 +81,16 @@ read-complete form bytes rows plain block =
 
 parts-found : (form : RowForm) (bytes : List ℕ) (read : Option ℕ) (spelled : List Spelled) → parts_read form bytes read ≡ Ok spelled
     → (count : ℕ) × (read ≡ Some count)
-    × (then_read (rows_read form (take (rows_end bytes count) bytes)) (with_restarts count (drop (rows_end bytes count) bytes)) ≡ Ok spelled)
+    × (then_read (rows_read form (take (rows_end bytes count) bytes)) (with_restarts form count (drop (rows_end bytes count) bytes)) ≡ Ok spelled)
 parts-found form bytes None spelled is = cc
 parts-found form bytes (Some count) spelled is = (count, refl, is)
 
 -- rows and restarts that were read stand in the bytes and keep the rules
 pub record BlockFound (form : RowForm) (bytes : List ℕ) (spelled : List Spelled) : Type 0 where
   pub rest : List ℕ
-  pub spelling : bytes ≡ flat_map row_spelling spelled ++ restarts_spelling (0 ∷ rest)
+  pub spelling : bytes ≡ flat_map (row_spelling form) spelled ++ restarts_spelling (0 ∷ rest)
   pub follows : Follows form None spelled
-  pub places : AreRestarts (0 ∷ rest) spelled
+  pub places : AreRestarts form (0 ∷ rest) spelled
 
 pub block-found : (form : RowForm) (bytes : List ℕ) (spelled : List Spelled) → HasNoFlags form → block_read form bytes ≡ Ok spelled
     → BlockFound form bytes spelled
@@ -102,22 +102,22 @@ block-found form bytes spelled plain is =
     let tail = drop end bytes in
     let footer = footer-found bytes count part.1 in
     let whole = footer-length bytes count footer in
-    then_ok (rows_read form (take end bytes)) (with_restarts count tail) spelled part.2
+    then_ok (rows_read form (take end bytes)) (with_restarts form count tail) spelled part.2
     (λ x first last.
-    let tests = unless_ok x spelled (restarts_fault (fresh_starts 0 x) count tail) last in
+    let tests = unless_ok x spelled (restarts_fault (fresh_starts form 0 x) count tail) last in
     let front = rows_from-found (length (take end bytes)) form 0 None (take end bytes) x plain (omega arith) first in
-    let found = restarts_fault-found count (fresh_starts 0 x) tail footer.some tests.0 in
+    let found = restarts_fault-found count (fresh_starts form 0 x) tail footer.some tests.0 in
     let sum : end + 4 * count ≡ length bytes - 4 = omega (arith, whole, footer.room) in
     let last : drop (4 * count) tail ≡ fixed 4 (length (0 ∷ found.restarts)) =
     drop-drop (4 * count) end bytes ∙ ap (λ (n : ℕ). drop n bytes) sum ∙ footer-last bytes count footer ∙ ap (fixed 4) (sym found.count) in
     let back : tail ≡ restarts_spelling (0 ∷ found.restarts) = found.joined ∙ ap (λ (xs : List ℕ). flat_map (fixed 4) (0 ∷ found.restarts) ++ xs) last in
-    let spelling : bytes ≡ flat_map row_spelling x ++ restarts_spelling (0 ∷ found.restarts) =
-    sym (take-append-drop end bytes) ∙ ap (λ (xs : List ℕ). xs ++ tail) front.0 ∙ ap (λ (xs : List ℕ). flat_map row_spelling x ++ xs) back in
+    let spelling : bytes ≡ flat_map (row_spelling form) x ++ restarts_spelling (0 ∷ found.restarts) =
+    sym (take-append-drop end bytes) ∙ ap (λ (xs : List ℕ). xs ++ tail) front.0 ∙ ap (λ (xs : List ℕ). flat_map (row_spelling form) x ++ xs) back in
     let block : BlockFound form bytes x = record {
       rest = found.restarts;
       spelling = spelling;
       follows = front.1;
-      places = restarts-from_parts found.restarts x (followers form x front.1).0 found.rises;
+      places = restarts-from_parts form found.restarts x (followers form x front.1).0 found.rises;
     } in
     subst (λ (all : List Spelled). BlockFound form bytes all) tests.1 block)
 

@@ -5,13 +5,14 @@ use Rattle.sst_block.specs.declared.row_form.RowForm.{RowForm}
 use Rattle.sst_block.specs.declared.row_form.RowForm.TheVariants.{Entries, Names, Index}
 use Rattle.sst_block.specs.declared.fault.BlockFault.{BlockFault}
 use Rattle.sst_block.specs.declared.fault.BlockFault.TheVariants.{BadRow, BadRestart, BadFooter, Disorder, BadKind, BadHash, BadHandle}
-use Rattle.sst_block.specs.Block.{Spelled, row_spelling, IsInternalKey, IsHandle, HasForm, AreOrdered}
+use Rattle.sst_block.specs.Block.{Spelled, SpellsLengths, row_spelling, IsInternalKey, IsHandle, HasForm, AreOrdered}
 use Rattle.sst_block.specs.Builder.{HasNoFlags, last_key}
 use Rattle.sst_block.specs.FirstFault.{rows_spelled, BeginsNoRow, BeginsRow, IsRowFault}
 use Rattle.sst_block.specs.BlockReading.{has_tag, is_internal_key, is_handle, is_after, form_fault, order_fault, or_fault, row_fault, unless, sound_row, row_at, row_read}
 use Rattle.sst_block.proofs.Follows.{last_of, last-key, ordered-push}
 use Rattle.sst_block.proofs.RowAt.{row_at-found}
 use Rattle.sst_block.proofs.RowFaults.{good-lengths, row-read}
+use Rattle.sst_block.proofs.Spellings.{spells-plain}
 use Rattle.sst_block.proofs.RowForms.{internal_key-passes, internal_key-from, handle-passes, handle-from}
 
 -- the second or the third of three tests fails
@@ -28,35 +29,35 @@ tag-from true short is tagged = is
 tag-from false short is tagged = cc
 
 -- no row with good lengths
-bad-lengths : (form : RowForm) (before : Option (List ℕ)) (key : List ℕ) (at : ℕ) (bytes : List ℕ) (read : Option (Spelled × ℕ))
+bad-lengths : (form : RowForm) (before : Option (List ℕ)) (key : List ℕ) (at : ℕ) (bytes : List ℕ) (read : Option (Spelled × ℕ)) → SpellsLengths form
     → row_at key bytes ≡ read → BeginsNoRow form key bytes → sound_row form at before read ≡ Err (BadRow at)
-bad-lengths form before key at bytes None is none = refl
-bad-lengths form before key at bytes (Some r) is none =
+bad-lengths form before key at bytes None spells is none = refl
+bad-lengths form before key at bytes (Some r) spells is none =
     elim (cases_Bool (has_tag form && nat_lt (length r.0.row.key) 8)) [
       | inl short ↦ ap (unless r) (cond-true _ (Some (BadRow at)) (or_fault (form_fault form at r.0.row) (order_fault form at before r.0.row)) short)
       | inr long ↦
-          let stands = row_at-found key bytes r.0 r.1 is in
+          let stands = row_at-found form key bytes r.0 r.1 spells is in
           let tagged = λ (tag : has_tag form ≡ true). ltb-false (length r.0.row.key) 8 (tag-from (has_tag form) (nat_lt (length r.0.row.key) 8) long tag) in
           absurd (none r.0 (drop r.1 bytes) stands.joined (good-lengths form key bytes r.0 r.1 stands tagged))
     ]
 
 -- a row that begins the bytes has the fault that its tests say
-row-says : (form : RowForm) (before : Option (List ℕ)) (key : List ℕ) (at : ℕ) (bytes : List ℕ) (s : Spelled) (fault : BlockFault)
+row-says : (form : RowForm) (before : Option (List ℕ)) (key : List ℕ) (at : ℕ) (bytes : List ℕ) (s : Spelled) (fault : BlockFault) → SpellsLengths form
     → BeginsRow form key bytes s → row_fault form at before s.row ≡ Some fault → sound_row form at before (row_at key bytes) ≡ Err fault
-row-says form before key at bytes s fault row is =
-    ap (sound_row form at before) (row-read form key bytes s row.after row.joined row.lengths) ∙ ap (unless (s, length (row_spelling s))) is
+row-says form before key at bytes s fault spells row is =
+    ap (sound_row form at before) (row-read form key bytes s row.after spells row.joined row.lengths) ∙ ap (unless (s, length (row_spelling form s))) is
 
 bad-kind : (before : Option (List ℕ)) (key : List ℕ) (at : ℕ) (bytes : List ℕ) (s : Spelled) → BeginsRow Entries key bytes s
     → (IsInternalKey s.row.key → ⊥) → sound_row Entries at before (row_at key bytes) ≡ Err (BadKind at)
 bad-kind before key at bytes s row not =
-    row-says Entries before key at bytes s (BadKind at) row
+    row-says Entries before key at bytes s (BadKind at) tt row
     (form-fails (nat_lt (length s.row.key) 8) (is_internal_key s.row.key) (is_after Entries before s.row.key) (BadRow at) (BadKind at) (Disorder at)
     (le-ltb (length s.row.key) 8 (row.lengths.tagged refl)) (false_from_ne_true (is_internal_key s.row.key) (λ is. not (internal_key-from s.row.key is))))
 
 bad-handle : (before : Option (List ℕ)) (key : List ℕ) (at : ℕ) (bytes : List ℕ) (s : Spelled) → BeginsRow (Index false false) key bytes s
     → (IsHandle s.row.value → ⊥) → sound_row (Index false false) at before (row_at key bytes) ≡ Err (BadHandle at)
 bad-handle before key at bytes s row not =
-    row-says (Index false false) before key at bytes s (BadHandle at) row
+    row-says (Index false false) before key at bytes s (BadHandle at) tt row
     (form-fails (nat_lt (length s.row.key) 8) (is_handle s.row.value) (is_after (Index false false) before s.row.key) (BadRow at) (BadHandle at) (Disorder at)
     (le-ltb (length s.row.key) 8 (row.lengths.tagged refl)) (false_from_ne_true (is_handle s.row.value) (λ is. not (handle-from s.row.value is))))
 
@@ -64,16 +65,16 @@ disorder : (form : RowForm) (before : Option (List ℕ)) (key : List ℕ) (at : 
     → BeginsRow form key bytes s → HasForm form s.row → is_after form before s.row.key ≡ false
     → sound_row form at before (row_at key bytes) ≡ Err (Disorder at)
 disorder Entries before key at bytes s plain row formed unordered =
-    row-says Entries before key at bytes s (Disorder at) row
+    row-says Entries before key at bytes s (Disorder at) tt row
     (order-fails (nat_lt (length s.row.key) 8) (is_internal_key s.row.key) (is_after Entries before s.row.key) (BadRow at) (BadKind at) (Disorder at)
     (le-ltb (length s.row.key) 8 (row.lengths.tagged refl)) (internal_key-passes s.row.key formed) unordered)
 disorder Names before key at bytes s plain row formed unordered =
-    row-says Names before key at bytes s (Disorder at) row
+    row-says Names before key at bytes s (Disorder at) tt row
     (order-fails false true (is_after Names before s.row.key) (BadRow at) (BadRow at) (Disorder at) refl refl unordered)
 disorder (Index true delta) before key at bytes s plain row formed unordered = absurd plain
 disorder (Index false true) before key at bytes s plain row formed unordered = absurd plain
 disorder (Index false false) before key at bytes s plain row formed unordered =
-    row-says (Index false false) before key at bytes s (Disorder at) row
+    row-says (Index false false) before key at bytes s (Disorder at) tt row
     (order-fails (nat_lt (length s.row.key) 8) (is_handle s.row.value) (is_after (Index false false) before s.row.key) (BadRow at) (BadHandle at) (Disorder at)
     (le-ltb (length s.row.key) 8 (row.lengths.tagged refl)) (handle-passes s.row.value formed.1) unordered)
 
@@ -97,7 +98,7 @@ at-place : (form : RowForm) (good : List Spelled) (at : ℕ) (bytes : List ℕ) 
     → IsRowFault form good at bytes fault → sound_row form at (last_of None (rows_spelled good)) (row_at (last_key [] (rows_spelled good)) bytes) ≡ Err fault
 at-place form good at bytes (BadRow place) plain ordered is =
     let key = last_key [] (rows_spelled good) in
-    bad-lengths form (last_of None (rows_spelled good)) key at bytes (row_at key bytes) refl is.1 ∙ ap (λ (p : ℕ). Err (BadRow p)) (sym is.0)
+    bad-lengths form (last_of None (rows_spelled good)) key at bytes (row_at key bytes) (spells-plain form plain) refl is.1 ∙ ap (λ (p : ℕ). Err (BadRow p)) (sym is.0)
 at-place form good at bytes (BadKind place) plain ordered is =
     kinds-faulty form good at bytes (refl, is.1, is.2) ∙ ap (λ (p : ℕ). Err (BadKind p)) (sym is.0)
 at-place form good at bytes (BadHandle place) plain ordered is =

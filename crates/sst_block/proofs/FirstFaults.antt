@@ -39,7 +39,7 @@ faulty-row form bytes count fault plain footer is =
     let front = take (rows_end bytes count) bytes in
     let end = drop (rows_end bytes count) bytes in
     let found = rows_from-fault (length front) form 0 None front fault plain (omega arith) is in
-    let place : 0 + length (flat_map row_spelling found.good) ≡ length (flat_map row_spelling found.good) = omega arith in
+    let place : 0 + length (flat_map (row_spelling form) found.good) ≡ length (flat_map (row_spelling form) found.good) = omega arith in
     record {
       count = count;
       good = found.good;
@@ -47,12 +47,12 @@ faulty-row form bytes count fault plain footer is =
       end = end;
       footer = footer;
       joined = sym (take-append-drop (rows_end bytes count) bytes) ∙ ap (λ (xs : List ℕ). xs ++ end) found.joined
-          ∙ append_assoc (flat_map row_spelling found.good) found.rest end;
+          ∙ append_assoc (flat_map (row_spelling form) found.good) found.rest end;
       ends = end-length bytes count footer;
       sound = sound-from form found.good found.follows;
       some = found.some;
       faulty = subst (λ (at : ℕ). IsRowFault form found.good at found.rest fault) place
-          (row_read-fault form found.good (0 + length (flat_map row_spelling found.good)) found.rest fault plain found.reads);
+          (row_read-fault form found.good (0 + length (flat_map (row_spelling form) found.good)) found.rest fault plain found.reads);
     }
 
 -- a faulty row is the first fault
@@ -68,25 +68,25 @@ row-first form bytes BadFooter is = absurd is.faulty
 -- a restart that was read as a fault
 restart-first : (form : RowForm) (bytes : List ℕ) (count : ℕ) (spelled : List Spelled) (fault : BlockFault) → HasNoFlags form → HasFooter bytes count
     → rows_read form (take (rows_end bytes count) bytes) ≡ Ok spelled
-    → restarts_fault (fresh_starts 0 spelled) count (drop (rows_end bytes count) bytes) ≡ Some fault → IsFirstFault form bytes fault
+    → restarts_fault (fresh_starts form 0 spelled) count (drop (rows_end bytes count) bytes) ≡ Some fault → IsFirstFault form bytes fault
 unfolding rows_read
 restart-first form bytes count spelled fault plain footer rows is =
     let front = take (rows_end bytes count) bytes in
     let end = drop (rows_end bytes count) bytes in
     let found = rows_from-found (length front) form 0 None front spelled plain (omega arith) rows in
     let sound = sound-from form spelled found.1 in
-    let last = restarts-end spelled count end fault sound.fronts is in
-    let joined : bytes ≡ flat_map row_spelling spelled ++ end =
+    let last = restarts-end form spelled count end fault sound.fronts is in
+    let joined : bytes ≡ flat_map (row_spelling form) spelled ++ end =
     sym (take-append-drop (rows_end bytes count) bytes) ∙ ap (λ (xs : List ℕ). xs ++ end) found.0 in
-    let size : length bytes ≡ length (flat_map row_spelling spelled) + 4 * count + 4 =
-    ap length joined ∙ length-append (flat_map row_spelling spelled) end ∙ omega (arith, end-length bytes count footer) in
+    let size : length bytes ≡ length (flat_map (row_spelling form) spelled) + 4 * count + 4 =
+    ap length joined ∙ length-append (flat_map (row_spelling form) spelled) end ∙ omega (arith, end-length bytes count footer) in
     let faulty : HasFaultyRestart form bytes (length last.restarts) = record {
       count = count;
       spelled = spelled;
       restarts = last.restarts;
       rest = last.rest;
       footer = footer;
-      joined = joined ∙ ap (λ (xs : List ℕ). flat_map row_spelling spelled ++ xs) last.joined;
+      joined = joined ∙ ap (λ (xs : List ℕ). flat_map (row_spelling form) spelled ++ xs) last.joined;
       ends = size;
       sound = sound;
       number = refl;
@@ -104,11 +104,11 @@ parts-fault form bytes None fault plain read is =
     (λ count footer. let some = footer-read bytes count footer in cc)
 parts-fault form bytes (Some count) fault plain read is =
     let footer = footer-found bytes count read in
-    then_err (rows_read form (take (rows_end bytes count) bytes)) (with_restarts count (drop (rows_end bytes count) bytes)) fault is
+    then_err (rows_read form (take (rows_end bytes count) bytes)) (with_restarts form count (drop (rows_end bytes count) bytes)) fault is
     (λ here. row-first form bytes fault (faulty-row form bytes count fault plain footer here))
     (λ spelled rows later.
     restart-first form bytes count spelled fault plain footer rows
-    (unless_err spelled (restarts_fault (fresh_starts 0 spelled) count (drop (rows_end bytes count) bytes)) fault later))
+    (unless_err spelled (restarts_fault (fresh_starts form 0 spelled) count (drop (rows_end bytes count) bytes)) fault later))
 
 -- what a block reads as is its first fault
 pub read-first : (form : RowForm) (bytes : List ℕ) (fault : BlockFault) → HasNoFlags form → block_read form bytes ≡ Err fault
@@ -125,7 +125,7 @@ row-read-first : (form : RowForm) (bytes : List ℕ) (fault : BlockFault) → Ha
     → HasFaultyRow form bytes fault → block_read form bytes ≡ Err fault
 unfolding block_read rows_read
 row-read-first form bytes fault plain short h =
-    let rows = flat_map row_spelling h.good in
+    let rows = flat_map (row_spelling form) h.good in
     let front = rows ++ h.rest in
     let joined : bytes ≡ front ++ h.end = h.joined ∙ sym (append_assoc rows h.rest h.end) in
     let size : length bytes ≡ length front + length h.end = ap length joined ∙ length-append front h.end in
@@ -137,27 +137,27 @@ row-read-first form bytes fault plain short h =
     subst (λ (p : ℕ). row_read form p (last_of None (rows_spelled h.good)) h.rest ≡ Err fault) place row in
     let all = rows_from-faulty form h.good (length front) 0 None h.rest fault plain (follow-sound form h.good h.sound) (omega arith) (omega arith) h.some reads in
     ap (parts_read form bytes) (footer-read bytes h.count h.footer)
-    ∙ ap (λ (t : List ℕ). then_read (rows_read form t) (with_restarts h.count (drop (rows_end bytes h.count) bytes))) first
-    ∙ ap (λ (r : Result (List Spelled) BlockFault). then_read r (with_restarts h.count (drop (rows_end bytes h.count) bytes))) all
+    ∙ ap (λ (t : List ℕ). then_read (rows_read form t) (with_restarts form h.count (drop (rows_end bytes h.count) bytes))) first
+    ∙ ap (λ (r : Result (List Spelled) BlockFault). then_read r (with_restarts form h.count (drop (rows_end bytes h.count) bytes))) all
 
 -- the bytes with a faulty restart read as its fault
 restart-read-first : (form : RowForm) (bytes : List ℕ) (i : ℕ) → HasNoFlags form → length bytes ≤ 2 ^ 29
     → HasFaultyRestart form bytes i → block_read form bytes ≡ Err (BadRestart i)
 unfolding block_read rows_read
 restart-read-first form bytes i plain short h =
-    let rows = flat_map row_spelling h.spelled in
+    let rows = flat_map (row_spelling form) h.spelled in
     let tail = flat_map (fixed 4) h.restarts ++ h.rest in
     let count = h.count in
     let at : length rows ≡ rows_end bytes count = omega (arith, h.ends) in
     let first : take (rows_end bytes count) bytes ≡ rows = ap (take (rows_end bytes count)) h.joined ∙ take_at rows tail (rows_end bytes count) at in
     let back : drop (rows_end bytes count) bytes ≡ tail = ap (drop (rows_end bytes count)) h.joined ∙ drop_at rows tail (rows_end bytes count) at in
     let all = rows_from-spelled form h.spelled (length rows) 0 None plain (follow-sound form h.spelled h.sound) (omega arith) (omega (arith, h.ends, short)) in
-    let faulty = restarts_fault-faulty h.spelled h.restarts count h.rest h.sound.fronts (omega (arith, h.ends, short)) (omega (arith, h.within, h.number))
+    let faulty = restarts_fault-faulty form h.spelled h.restarts count h.rest h.sound.fronts (omega (arith, h.ends, short)) (omega (arith, h.within, h.number))
     (λ some. h.kept (omega (arith, some, h.number))) h.broken in
     ap (parts_read form bytes) (footer-read bytes count h.footer)
-    ∙ ap (λ (t : List ℕ). then_read (rows_read form t) (with_restarts count (drop (rows_end bytes count) bytes))) first
-    ∙ ap (λ (r : Result (List Spelled) BlockFault). then_read r (with_restarts count (drop (rows_end bytes count) bytes))) all
-    ∙ ap (λ (d : List ℕ). with_restarts count d h.spelled) back
+    ∙ ap (λ (t : List ℕ). then_read (rows_read form t) (with_restarts form count (drop (rows_end bytes count) bytes))) first
+    ∙ ap (λ (r : Result (List Spelled) BlockFault). then_read r (with_restarts form count (drop (rows_end bytes count) bytes))) all
+    ∙ ap (λ (d : List ℕ). with_restarts form count d h.spelled) back
     ∙ ap (unless h.spelled) faulty ∙ ap (λ (p : ℕ). Err (BadRestart p)) h.number
 
 -- the first fault of a block is what it reads as

@@ -21,6 +21,7 @@ pub mod RowFaults
 pub mod RowForms
 pub mod RowsCopied
 pub mod RowsRead
+pub mod Spellings
 pub mod Size
 pub mod Steps
 pub mod Walking

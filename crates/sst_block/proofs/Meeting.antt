@@ -8,6 +8,7 @@ use Rattle.std.proofs.lemmas.Option.{none-some}
 use Rattle.std.proofs.lemmas.List.Folds.{list_any-append}
 use Rattle.sst_num.specs.NumberReading.{fixed_at}
 use Rattle.sst_num.proofs.Groups.{varint-some}
+use Rattle.sst_block.specs.declared.row_form.RowForm.{RowForm}
 use Rattle.sst_block.specs.declared.fault.BlockFault.{BlockFault}
 use Rattle.sst_block.specs.declared.fault.BlockFault.TheVariants.{BadRestart}
 use Rattle.sst_block.specs.Block.{Spelled, row_spelling, fresh_starts}
@@ -15,8 +16,8 @@ use Rattle.sst_block.specs.BlockReading.{may_follow, restart_fault}
 use Rattle.sst_block.specs.Restarts.{Open, is_next, met, met_by, open_after}
 
 -- a row takes at least one byte
-pub row-some : (s : Spelled) → 0 < length (row_spelling s)
-row-some s = omega (arith, varint-some s.shared, length-append {A = ℕ})
+pub row-some : (form : RowForm) (s : Spelled) → 0 < length (row_spelling form s)
+row-some form s = omega (arith, varint-some s.shared, length-append {A = ℕ})
 
 -- of so many restarts some are left: the first of them is the fault
 abbrev pub fault_left : ℕ → ℕ → Option BlockFault
@@ -122,23 +123,23 @@ met-stays zero at last left e = refl
 met-stays (suc n) at last left e = rw (lt-ltb 0 (suc n) (omega arith), e) refl
 
 -- a row that shares nothing, if what follows is right
-fresh-fault : (rows : List Spelled) (seen : List ℕ) (at further n i last : ℕ) (left : List ℕ) → Below seen at → Unmet seen n last (fixed_at 4 left)
+fresh-fault : (form : RowForm) (rows : List Spelled) (seen : List ℕ) (at further n i last : ℕ) (left : List ℕ) → Below seen at → Unmet seen n last (fixed_at 4 left)
     → ((n i last : ℕ) (left : List ℕ) → Unmet (seen ++ at ∷ []) n last (fixed_at 4 left)
-    → restart_fault ((seen ++ at ∷ []) ++ fresh_starts further rows) n i last left
-    ≡ fault_of (i + n) (open_after further (record { missing = n; last = last; left = left }) rows))
-    → restart_fault ((seen ++ at ∷ []) ++ fresh_starts further rows) n i last left
-    ≡ fault_of (i + n) (open_after further (met at (record { missing = n; last = last; left = left })) rows)
-fresh-fault rows seen at further zero i last left b u follows =
+    → restart_fault ((seen ++ at ∷ []) ++ fresh_starts form further rows) n i last left
+    ≡ fault_of (i + n) (open_after form further (record { missing = n; last = last; left = left }) rows))
+    → restart_fault ((seen ++ at ∷ []) ++ fresh_starts form further rows) n i last left
+    ≡ fault_of (i + n) (open_after form further (met at (record { missing = n; last = last; left = left })) rows)
+fresh-fault form rows seen at further zero i last left b u follows =
     follows zero i last left (record { none = λ r some same after. absurd (omega arith) })
-fresh-fault rows seen at further (suc n) i last left b u follows =
+fresh-fault form rows seen at further (suc n) i last left b u follows =
     elim (cases_Bool (is_next at last (fixed_at 4 left))) [
       | inl is ↦
           let next = next_is at last (fixed_at 4 left) is in
           let after : Unmet (seen ++ at ∷ []) n at (fixed_at 4 (drop 4 left)) = record { none = λ r some same above. seen-one_more seen r at (b.none r (omega arith)) (other_place r at above) } in
-          let among = subst (λ (l : List ℕ). list_any (nat_eq at) l ≡ true) (sym (append_assoc seen (at ∷ []) (fresh_starts further rows))) (found_among seen (fresh_starts further rows) at) in
+          let among = subst (λ (l : List ℕ). list_any (nat_eq at) l ≡ true) (sym (append_assoc seen (at ∷ []) (fresh_starts form further rows))) (found_among seen (fresh_starts form further rows) at) in
           let total : i + 1 + n ≡ i + suc n = omega arith in
           rw (met-meets n at last left is, sym total)
-          (met-follows ((seen ++ at ∷ []) ++ fresh_starts further rows) n i at last left next among ∙ follows n (i + 1) at (drop 4 left) after)
+          (met-follows ((seen ++ at ∷ []) ++ fresh_starts form further rows) n i at last left next among ∙ follows n (i + 1) at (drop 4 left) after)
       | inr not ↦
           rw (met-stays (suc n) at last left not) (follows (suc n) i last left (next_not seen at (suc n) last (fixed_at 4 left) not u))
     ]
@@ -157,22 +158,22 @@ starts-shared : (rest : List ℕ) (at shared : ℕ) → (shared == 0) ≡ false 
 starts-shared rest at shared e = rw e refl
 
 -- the first restart that isn't met is the first that has a fault; `seen` are the places that shared nothing so far
-pub open-fault : (rows : List Spelled) (seen : List ℕ) (at n i last : ℕ) (left : List ℕ) → Below seen at → Unmet seen n last (fixed_at 4 left)
-    → restart_fault (seen ++ fresh_starts at rows) n i last left
-    ≡ fault_of (i + n) (open_after at (record { missing = n; last = last; left = left }) rows)
-open-fault [] seen at n i last left b u = none_follows seen n i last left u
-open-fault (s ∷ rows) seen at n i last left b u =
-    let further = at + length (row_spelling s) in
+pub open-fault : (form : RowForm) (rows : List Spelled) (seen : List ℕ) (at n i last : ℕ) (left : List ℕ) → Below seen at → Unmet seen n last (fixed_at 4 left)
+    → restart_fault (seen ++ fresh_starts form at rows) n i last left
+    ≡ fault_of (i + n) (open_after form at (record { missing = n; last = last; left = left }) rows)
+open-fault form [] seen at n i last left b u = none_follows seen n i last left u
+open-fault form (s ∷ rows) seen at n i last left b u =
+    let further = at + length (row_spelling form s) in
     let o : Open = record { missing = n; last = last; left = left } in
-    let more : at < further = omega (arith, row-some s) in
+    let more : at < further = omega (arith, row-some form s) in
     elim (cases_Bool (s.shared == 0)) [
       | inr shares ↦
-          ap (λ (l : List ℕ). restart_fault (seen ++ l) n i last left) (starts-shared (fresh_starts further rows) at s.shared shares)
-          ∙ open-fault rows seen further n i last left (Below-more seen at further (omega arith) b) u
-          ∙ ap (λ (p : Open). fault_of (i + n) (open_after further p rows)) (sym (by_shared s.shared at o shares))
+          ap (λ (l : List ℕ). restart_fault (seen ++ l) n i last left) (starts-shared (fresh_starts form further rows) at s.shared shares)
+          ∙ open-fault form rows seen further n i last left (Below-more seen at further (omega arith) b) u
+          ∙ ap (λ (p : Open). fault_of (i + n) (open_after form further p rows)) (sym (by_shared s.shared at o shares))
       | inl fresh ↦
-          ap (λ (l : List ℕ). restart_fault l n i last left) (starts-fresh seen (fresh_starts further rows) at s.shared fresh)
-          ∙ fresh-fault rows seen at further n i last left b u
-          (λ m j place others v. open-fault rows (seen ++ at ∷ []) further m j place others (Below-push seen at further more b) v)
-          ∙ ap (λ (p : Open). fault_of (i + n) (open_after further p rows)) (sym (by_fresh s.shared at o fresh))
+          ap (λ (l : List ℕ). restart_fault l n i last left) (starts-fresh seen (fresh_starts form further rows) at s.shared fresh)
+          ∙ fresh-fault form rows seen at further n i last left b u
+          (λ m j place others v. open-fault form rows (seen ++ at ∷ []) further m j place others (Below-push seen at further more b) v)
+          ∙ ap (λ (p : Open). fault_of (i + n) (open_after form further p rows)) (sym (by_fresh s.shared at o fresh))
     ]

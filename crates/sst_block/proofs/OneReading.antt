@@ -1,12 +1,13 @@
 -- A block has one list of rows, whatever its form, and none where it reads as a fault.
-use Rattle.std.proofs.Common.{◌≡◌, ℕ, ◌^◌, ◌≤◌, true, false, List, [], ◌∷◌, length, map, Result, Ok, Err, refl, sym, ap, ◌∙◌}
+use Rattle.std.proofs.Common.{◌≡◌, ℕ, ◌^◌, ◌≤◌, true, false, List, [], ◌∷◌, length, map, Result, Ok, Err, ◌++◌, All, refl, sym, subst, ap, ◌∙◌}
 use Rattle.std.proofs.lemmas.List.Elements.{All-weaker}
 use Rattle.sst_block.specs.declared.row_form.RowForm.{RowForm}
 use Rattle.sst_block.specs.declared.row_form.RowForm.TheVariants.{Entries, Names, Index}
 use Rattle.sst_block.specs.declared.fault.BlockFault.{BlockFault}
-use Rattle.sst_block.specs.Block.{Row, Spelled, Block, IsRow, AreOrdered, key_cmp}
+use Rattle.sst_block.specs.Block.{Row, Spelled, Block, IsRow, AreOrdered, SpellsLengths, restarts_spelling, key_cmp}
 use Rattle.sst_block.specs.Builder.{HasNoFlags}
 use Rattle.sst_block.specs.BlockReading.{block_read, Reads}
+use Rattle.sst_block.proofs.Spellings.{rows-alike, restarts-alike}
 use Rattle.sst_block.proofs.BlockRead.{read-complete, read-sound}
 
 -- what reads as a fault has no rows
@@ -44,20 +45,23 @@ ordered-as form other (a ∷ []) same ordered = tt
 ordered-as form other (a ∷ b ∷ rest) same ordered =
     (sym (same a.key b.key) ∙ ordered.0, ordered-as form other (b ∷ rest) same ordered.1)
 
--- a block of one form is one of another that has the same order and asks no more
+-- a block of one form is one of another that has the same order, asks no more and spells the lengths of values
 block-as : (form other : RowForm) (bytes : List ℕ) (rows : List Row) → ((a b : List ℕ) → key_cmp form a b ≡ key_cmp other a b)
-    → ((row : Row) → IsRow form row → IsRow other row) → Block form bytes rows → Block other bytes rows
-block-as form other bytes rows same weaker block = record {
-  spelled = block.spelled;
-  restarts = block.restarts;
-  are_rows = block.are_rows;
-  spelling = block.spelling;
-  fronts = block.fronts;
-  places = block.places;
-  forms = All-weaker (IsRow form) (IsRow other) weaker rows block.forms;
-  ordered = ordered-as form other rows same block.ordered;
-  short = block.short;
-}
+    → ((row : Row) → IsRow form row → IsRow other row) → SpellsLengths other → Block form bytes rows → Block other bytes rows
+block-as form other bytes rows same weaker spells block =
+    let forms = subst (λ (all : List Row). All (IsRow form) all) (sym block.are_rows) block.forms in
+    let spelling = rows-alike form other block.spelled spells forms in
+    record {
+      spelled = block.spelled;
+      restarts = block.restarts;
+      are_rows = block.are_rows;
+      spelling = block.spelling ∙ ap (λ (xs : List ℕ). xs ++ restarts_spelling block.restarts) spelling;
+      fronts = block.fronts;
+      places = restarts-alike form other block.restarts block.spelled spells forms block.places;
+      forms = All-weaker (IsRow form) (IsRow other) weaker rows block.forms;
+      ordered = ordered-as form other rows same block.ordered;
+      short = block.short;
+    }
 
 -- a block of any form has one list of rows
 pub one-list : (form : RowForm) (bytes : List ℕ) (a b : List Row) → Block form bytes a → Block form bytes b → a ≡ b
@@ -65,20 +69,20 @@ one-list Entries bytes a b left right = plain-one Entries bytes a b tt left righ
 one-list Names bytes a b left right = plain-one Names bytes a b tt left right
 one-list (Index false false) bytes a b left right = plain-one (Index false false) bytes a b tt left right
 one-list (Index false true) bytes a b left right =
-    let plain = λ (rows : List Row). block-as (Index false true) (Index false false) bytes rows (λ a b. refl) (λ row is. (is.0, absurd is.1)) in
+    let plain = λ (rows : List Row). block-as (Index false true) (Index false false) bytes rows (λ a b. refl) (λ row is. (is.0, absurd is.1)) tt in
     plain-one (Index false false) bytes a b tt (plain a left) (plain b right)
 one-list (Index true delta) bytes a b left right =
-    let plain = λ (rows : List Row). block-as (Index true delta) Names bytes rows (λ a b. refl) (λ row is. (is.0, tt)) in
+    let plain = λ (rows : List Row). block-as (Index true delta) Names bytes rows (λ a b. refl) (λ row is. (is.0, tt)) tt in
     plain-one Names bytes a b tt (plain a left) (plain b right)
 
--- the rows of a block of any form are read, in some form
-pub block-reads : (form : RowForm) (bytes : List ℕ) (rows : List Row) → Block form bytes rows → (plain : RowForm) × Reads plain bytes rows
-block-reads Entries bytes rows block = (Entries, read-complete Entries bytes rows tt block)
-block-reads Names bytes rows block = (Names, read-complete Names bytes rows tt block)
-block-reads (Index false false) bytes rows block = (Index false false, read-complete (Index false false) bytes rows tt block)
+-- the rows of a block of any form are read, in some form that spells the lengths of values
+pub block-reads : (form : RowForm) (bytes : List ℕ) (rows : List Row) → Block form bytes rows → (plain : RowForm) × SpellsLengths plain × Reads plain bytes rows
+block-reads Entries bytes rows block = (Entries, tt, read-complete Entries bytes rows tt block)
+block-reads Names bytes rows block = (Names, tt, read-complete Names bytes rows tt block)
+block-reads (Index false false) bytes rows block = (Index false false, tt, read-complete (Index false false) bytes rows tt block)
 block-reads (Index false true) bytes rows block =
-    let plain = block-as (Index false true) (Index false false) bytes rows (λ a b. refl) (λ row is. (is.0, absurd is.1)) block in
-    (Index false false, read-complete (Index false false) bytes rows tt plain)
+    let plain = block-as (Index false true) (Index false false) bytes rows (λ a b. refl) (λ row is. (is.0, absurd is.1)) tt block in
+    (Index false false, tt, read-complete (Index false false) bytes rows tt plain)
 block-reads (Index true delta) bytes rows block =
-    let plain = block-as (Index true delta) Names bytes rows (λ a b. refl) (λ row is. (is.0, tt)) block in
-    (Names, read-complete Names bytes rows tt plain)
+    let plain = block-as (Index true delta) Names bytes rows (λ a b. refl) (λ row is. (is.0, tt)) tt block in
+    (Names, tt, read-complete Names bytes rows tt plain)

@@ -25,47 +25,47 @@ met_by-le shared at o =
       | false ↦ omega arith
     ]
 
-open_after-le : (rows : List Spelled) (at : ℕ) (o : Open) → (open_after at o rows).missing ≤ o.missing
-open_after-le [] at o = omega arith
-open_after-le (s ∷ rows) at o =
-    omega (arith, open_after-le rows (at + length (row_spelling s)) (met_by s.shared at o), met_by-le s.shared at o)
+open_after-le : (form : RowForm) (rows : List Spelled) (at : ℕ) (o : Open) → (open_after form at o rows).missing ≤ o.missing
+open_after-le form [] at o = omega arith
+open_after-le form (s ∷ rows) at o =
+    omega (arith, open_after-le form rows (at + length (row_spelling form s)) (met_by s.shared at o), met_by-le s.shared at o)
 
 -- what was counted is of rows that were read
 pub record Counted (form : RowForm) (o : Open) (bytes : List ℕ) (found missing : ℕ) : Type 0 where
   pub rows : List Spelled
   pub reads : rows_read form bytes ≡ Ok rows
   pub many : length rows ≡ found
-  pub left : (open_after 0 o rows).missing ≡ missing
+  pub left : (open_after form 0 o rows).missing ≡ missing
   pub few : missing ≤ o.missing
 
 counted-from : (form : RowForm) (o : Open) (bytes : List ℕ) (found missing : ℕ) (read : Result (List Spelled) BlockFault) → rows_read form bytes ≡ read
-    → then_read read (λ rows. Ok (counted o rows)) ≡ Ok (found, missing) → Counted form o bytes found missing
+    → then_read read (λ rows. Ok (counted form o rows)) ≡ Ok (found, missing) → Counted form o bytes found missing
 counted-from form o bytes found missing (Err fault) is e = cc
 counted-from form o bytes found missing (Ok rows) is e =
-    let same : counted o rows ≡ (found, missing) = cc in
-    let left : (open_after 0 o rows).missing ≡ missing = ap (λ p. p.1) same in
+    let same : counted form o rows ≡ (found, missing) = cc in
+    let left : (open_after form 0 o rows).missing ≡ missing = ap (λ p. p.1) same in
     record {
       rows = rows;
       reads = is;
       many = ap (λ p. p.0) same;
       left = left;
-      few = omega (arith, left, open_after-le rows 0 o);
+      few = omega (arith, left, open_after-le form rows 0 o);
     }
 
 pub rows_counted-reads : (form : RowForm) (o : Open) (bytes : List ℕ) (found missing : ℕ) → Ok (found, missing) ≡ rows_counted form o bytes → Counted form o bytes found missing
 rows_counted-reads form o bytes found missing e = counted-from form o bytes found missing (rows_read form bytes) refl (sym e)
 
 -- where the first restart is 0, the first that isn't met is the fault
-restarts-left : (count : ℕ) (places : List ℕ) (rows : List Spelled) → 0 < count → fixed_at 4 places ≡ Some 0
-    → restarts_fault (fresh_starts 0 rows) count places
-    ≡ fault_left count (open_after 0 (record { missing = count - 1; last = 0; left = drop 4 places }) rows).missing
-restarts-left zero places rows some first = absurd (omega arith)
-restarts-left (suc n) places rows some first =
+restarts-left : (form : RowForm) (count : ℕ) (places : List ℕ) (rows : List Spelled) → 0 < count → fixed_at 4 places ≡ Some 0
+    → restarts_fault (fresh_starts form 0 rows) count places
+    ≡ fault_left count (open_after form 0 (record { missing = count - 1; last = 0; left = drop 4 places }) rows).missing
+restarts-left form zero places rows some first = absurd (omega arith)
+restarts-left form (suc n) places rows some first =
     let less : suc n - 1 ≡ n = omega arith in
     let total : 1 + n ≡ suc n = omega arith in
     let below : Below [] 0 = record { none = λ r h. refl } in
     let unmet : Unmet [] n 0 (fixed_at 4 (drop 4 places)) = record { none = λ r h same after. refl } in
-    rw (first, less) (open-fault rows [] 0 n 1 0 (drop 4 places) below unmet ∙ ap (λ t. fault_left t (open_after 0 (record { missing = n; last = 0; left = drop 4 places }) rows).missing) total)
+    rw (first, less) (open-fault form rows [] 0 n 1 0 (drop 4 places) below unmet ∙ ap (λ t. fault_left t (open_after form 0 (record { missing = n; last = 0; left = drop 4 places }) rows).missing) total)
 
 fault_left-some : (total missing : ℕ) → 0 < missing → fault_left total missing ≡ Some (BadRestart (total - missing))
 fault_left-some total zero h = absurd (omega arith)
@@ -74,17 +74,17 @@ fault_left-some total (suc n) h = refl
 -- a restart isn't met
 pub parts-missing : (form : RowForm) (rows places : List ℕ) (count found missing : ℕ) → 0 < count → fixed_at 4 places ≡ Some 0
     → Counted form (record { missing = count - 1; last = 0; left = drop 4 places }) rows found missing → 0 < missing
-    → then_read (rows_read form rows) (with_restarts count places) ≡ Err (BadRestart (count - missing))
+    → then_read (rows_read form rows) (with_restarts form count places) ≡ Err (BadRestart (count - missing))
 parts-missing form rows places count found missing some first c h =
-    rw (c.reads, restarts-left count places c.rows some first, c.left, fault_left-some count missing h) refl
+    rw (c.reads, restarts-left form count places c.rows some first, c.left, fault_left-some count missing h) refl
 
 -- each restart is met
 pub parts-sound : (form : RowForm) (rows places : List ℕ) (count found missing : ℕ) → 0 < count → fixed_at 4 places ≡ Some 0
     → Counted form (record { missing = count - 1; last = 0; left = drop 4 places }) rows found missing → missing ≡ 0
-    → (spelled : List Spelled) × (then_read (rows_read form rows) (with_restarts count places) ≡ Ok spelled) × (length spelled ≡ found)
+    → (spelled : List Spelled) × (then_read (rows_read form rows) (with_restarts form count places) ≡ Ok spelled) × (length spelled ≡ found)
 parts-sound form rows places count found missing some first c h =
-    let none : (open_after 0 (record { missing = count - 1; last = 0; left = drop 4 places }) c.rows).missing ≡ 0 = c.left ∙ h in
-    let same : then_read (rows_read form rows) (with_restarts count places) ≡ Ok c.rows = rw (c.reads, restarts-left count places c.rows some first, none) refl in
+    let none : (open_after form 0 (record { missing = count - 1; last = 0; left = drop 4 places }) c.rows).missing ≡ 0 = c.left ∙ h in
+    let same : then_read (rows_read form rows) (with_restarts form count places) ≡ Ok c.rows = rw (c.reads, restarts-left form count places c.rows some first, none) refl in
     (c.rows, same, c.many)
 
 -- the same of the restarts behind the first as they are lent

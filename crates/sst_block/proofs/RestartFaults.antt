@@ -6,6 +6,7 @@ use Rattle.std.proofs.lemmas.List.Elements.{All-head, All-tail}
 use Rattle.sst_num.specs.Spelling.{fixed}
 use Rattle.sst_num.specs.NumberReading.{fixed_at}
 use Rattle.sst_num.proofs.FixedAt.{fixed_at-found, fixed_at-joined}
+use Rattle.sst_block.specs.declared.row_form.RowForm.{RowForm}
 use Rattle.sst_block.specs.declared.fault.BlockFault.{BlockFault}
 use Rattle.sst_block.specs.declared.fault.BlockFault.TheVariants.{BadRestart}
 use Rattle.sst_block.specs.Block.{Spelled, SharesFronts, row_spelling, fresh_starts, AreRestarts}
@@ -76,14 +77,14 @@ restart-end (suc n) fresh i before bytes fault is =
     ]
 
 -- restarts that keep the rules stand at the front of the bytes, and then none that keeps them
-pub record RestartsEnd (spelled : List Spelled) (n : ℕ) (bytes : List ℕ) (fault : BlockFault) : Type 0 where
+pub record RestartsEnd (form : RowForm) (spelled : List Spelled) (n : ℕ) (bytes : List ℕ) (fault : BlockFault) : Type 0 where
   pub restarts : List ℕ
   pub rest : List ℕ
   pub joined : bytes ≡ flat_map (fixed 4) restarts ++ rest
   pub within : length restarts < n
   pub fault_is : BadRestart (length restarts) ≡ fault
-  pub kept : 0 < length restarts → AreRestarts restarts spelled
-  pub broken : (restart : ℕ) (after : List ℕ) → restart < 2 ^ 32 → rest ≡ fixed 4 restart ++ after → AreRestarts (restarts ++ restart ∷ []) spelled → ⊥
+  pub kept : 0 < length restarts → AreRestarts form restarts spelled
+  pub broken : (restart : ℕ) (after : List ℕ) → restart < 2 ^ 32 → rest ≡ fixed 4 restart ++ after → AreRestarts form (restarts ++ restart ∷ []) spelled → ⊥
 
 -- a number that may stand there is read
 no-number : (test : ℕ → Bool) (bytes : List ℕ) (v : ℕ) (after : List ℕ) → number_where test bytes ≡ None → v < 2 ^ 32
@@ -92,30 +93,30 @@ no-number test bytes v after none fits joined passes =
     let read : number_where test bytes ≡ Some v = ap (number_where test) joined ∙ number_where-fixed test v after fits passes in
     cc
 
-first-broken : (spelled : List Spelled) (bytes : List ℕ) → number_where (λ first. first == 0) bytes ≡ None
-    → (restart : ℕ) (after : List ℕ) → restart < 2 ^ 32 → bytes ≡ fixed 4 restart ++ after → AreRestarts (restart ∷ []) spelled → ⊥
-first-broken spelled bytes none restart after fits joined are =
-    let parts = restarts-parts (restart ∷ []) spelled are in
+first-broken : (form : RowForm) (spelled : List Spelled) (bytes : List ℕ) → number_where (λ first. first == 0) bytes ≡ None
+    → (restart : ℕ) (after : List ℕ) → restart < 2 ^ 32 → bytes ≡ fixed 4 restart ++ after → AreRestarts form (restart ∷ []) spelled → ⊥
+first-broken form spelled bytes none restart after fits joined are =
+    let parts = restarts-parts form (restart ∷ []) spelled are in
     let same : restart ∷ [] ≡ 0 ∷ parts.0 = parts.1 in
     let zeroth : restart ≡ 0 = cc in
     no-number (λ first. first == 0) bytes restart after none fits joined (eq-eqb restart 0 zeroth)
 
-later-broken : (spelled : List Spelled) (restarts bytes : List ℕ)
-    → number_where (may_follow (fresh_starts 0 spelled) (last_number 0 restarts)) bytes ≡ None
-    → (restart : ℕ) (after : List ℕ) → restart < 2 ^ 32 → bytes ≡ fixed 4 restart ++ after → AreRestarts (0 ∷ (restarts ++ restart ∷ [])) spelled → ⊥
-later-broken spelled restarts bytes none restart after fits joined are =
-    let fresh = fresh_starts 0 spelled in
-    let parts = restarts-parts (0 ∷ (restarts ++ restart ∷ [])) spelled are in
+later-broken : (form : RowForm) (spelled : List Spelled) (restarts bytes : List ℕ)
+    → number_where (may_follow (fresh_starts form 0 spelled) (last_number 0 restarts)) bytes ≡ None
+    → (restart : ℕ) (after : List ℕ) → restart < 2 ^ 32 → bytes ≡ fixed 4 restart ++ after → AreRestarts form (0 ∷ (restarts ++ restart ∷ [])) spelled → ⊥
+later-broken form spelled restarts bytes none restart after fits joined are =
+    let fresh = fresh_starts form 0 spelled in
+    let parts = restarts-parts form (0 ∷ (restarts ++ restart ∷ [])) spelled are in
     let whole : 0 ∷ (restarts ++ restart ∷ []) ≡ 0 ∷ parts.0 = parts.1 in
     let same : parts.0 ≡ restarts ++ restart ∷ [] = cc in
     let rises = subst (λ (xs : List ℕ). Rises fresh 0 xs) same parts.2 in
     no-number (may_follow fresh (last_number 0 restarts)) bytes restart after none fits joined (rises-last fresh 0 restarts restart rises)
 
-pub restarts-end : (spelled : List Spelled) (n : ℕ) (bytes : List ℕ) (fault : BlockFault) → SharesFronts [] spelled
-    → restarts_fault (fresh_starts 0 spelled) n bytes ≡ Some fault → RestartsEnd spelled n bytes fault
-restarts-end spelled zero bytes fault fronts is = cc
-restarts-end spelled (suc n) bytes fault fronts is =
-    let fresh = fresh_starts 0 spelled in
+pub restarts-end : (form : RowForm) (spelled : List Spelled) (n : ℕ) (bytes : List ℕ) (fault : BlockFault) → SharesFronts [] spelled
+    → restarts_fault (fresh_starts form 0 spelled) n bytes ≡ Some fault → RestartsEnd form spelled n bytes fault
+restarts-end form spelled zero bytes fault fronts is = cc
+restarts-end form spelled (suc n) bytes fault fronts is =
+    let fresh = fresh_starts form 0 spelled in
     elim (by_number-some (BadRestart 0) (number_where (λ first. first == 0) bytes) (λ first. restart_fault fresh n 1 first (drop 4 bytes)) fault is) [
       | inl here ↦ record {
         restarts = [];
@@ -124,7 +125,7 @@ restarts-end spelled (suc n) bytes fault fronts is =
         within = omega arith;
         fault_is = here.1;
         kept = λ some. absurd (omega arith);
-        broken = first-broken spelled bytes here.0;
+        broken = first-broken form spelled bytes here.0;
       }
       | inr later ↦
           let found = number_where-found (λ first. first == 0) later.0 bytes later.1 in
@@ -138,8 +139,8 @@ restarts-end spelled (suc n) bytes fault fronts is =
             joined = fixed_at-joined 4 0 bytes read ∙ ap (λ (xs : List ℕ). fixed 4 0 ++ xs) more.joined;
             within = omega (arith, more.within);
             fault_is = ap BadRestart place ∙ more.fault_is;
-            kept = λ some. restarts-from_parts more.restarts spelled fronts more.rises;
-            broken = later-broken spelled more.restarts more.rest more.none;
+            kept = λ some. restarts-from_parts form more.restarts spelled fronts more.rises;
+            broken = later-broken form spelled more.restarts more.rest more.none;
           }
     ]
 
@@ -167,46 +168,46 @@ restart_fault-faulty fresh (r ∷ restarts) (suc n) i before rest rises fit with
     ∙ ap (λ (p : ℕ). Some (BadRestart p)) place
 
 -- no number at the front keeps the rules with the restarts before it
-abbrev NoneKeeps : List Spelled → List ℕ → List ℕ → Type 0
-NoneKeeps spelled restarts bytes =
-    (restart : ℕ) (after : List ℕ) → restart < 2 ^ 32 → bytes ≡ fixed 4 restart ++ after → AreRestarts (restarts ++ restart ∷ []) spelled → ⊥
+abbrev NoneKeeps : RowForm → List Spelled → List ℕ → List ℕ → Type 0
+NoneKeeps form spelled restarts bytes =
+    (restart : ℕ) (after : List ℕ) → restart < 2 ^ 32 → bytes ≡ fixed 4 restart ++ after → AreRestarts form (restarts ++ restart ∷ []) spelled → ⊥
 
-zero-first : (spelled : List Spelled) (restarts : List ℕ) (n : ℕ) (rest : List ℕ) → SharesFronts [] spelled
-    → length (flat_map row_spelling spelled) < 2 ^ 32 → Rises (fresh_starts 0 spelled) 0 restarts → length (0 ∷ restarts) < suc n
-    → NoneKeeps spelled (0 ∷ restarts) rest
-    → restarts_fault (fresh_starts 0 spelled) (suc n) (flat_map (fixed 4) (0 ∷ restarts) ++ rest) ≡ Some (BadRestart (length (0 ∷ restarts)))
-zero-first spelled restarts n rest fronts short rises within broken =
-    let fresh = fresh_starts 0 spelled in
+zero-first : (form : RowForm) (spelled : List Spelled) (restarts : List ℕ) (n : ℕ) (rest : List ℕ) → SharesFronts [] spelled
+    → length (flat_map (row_spelling form) spelled) < 2 ^ 32 → Rises (fresh_starts form 0 spelled) 0 restarts → length (0 ∷ restarts) < suc n
+    → NoneKeeps form spelled (0 ∷ restarts) rest
+    → restarts_fault (fresh_starts form 0 spelled) (suc n) (flat_map (fixed 4) (0 ∷ restarts) ++ rest) ≡ Some (BadRestart (length (0 ∷ restarts)))
+zero-first form spelled restarts n rest fronts short rises within broken =
+    let fresh = fresh_starts form 0 spelled in
     let after = flat_map (fixed 4) restarts ++ rest in
     let test = may_follow fresh (last_number 0 restarts) in
     let none = none-passes test rest (number_where test rest) refl
     (λ v read passes.
     let stands = fixed_at-found 4 v rest read in
     broken v (drop 4 rest) (omega (arith, stands.fits)) (fixed_at-joined 4 v rest read)
-    (restarts-from_parts (restarts ++ v ∷ []) spelled fronts (rises-push fresh 0 restarts v rises passes))) in
+    (restarts-from_parts form (restarts ++ v ∷ []) spelled fronts (rises-push fresh 0 restarts v rises passes))) in
     let here = number_where-fixed (λ first. first == 0) 0 after (omega arith) refl in
     let place : 1 + length restarts ≡ length (0 ∷ restarts) = omega arith in
     ap (λ (read : Option ℕ). by_number (BadRestart 0) read (λ first. restart_fault fresh n 1 first after)) here
-    ∙ restart_fault-faulty fresh restarts n 1 0 rest rises (restarts-within (2 ^ 32) restarts spelled rises short) (omega arith) none
+    ∙ restart_fault-faulty fresh restarts n 1 0 rest rises (restarts-within form (2 ^ 32) restarts spelled rises short) (omega arith) none
     ∙ ap (λ (p : ℕ). Some (BadRestart p)) place
 
 -- the first restart that breaks a rule is read as a fault
-pub restarts_fault-faulty : (spelled : List Spelled) (restarts : List ℕ) (n : ℕ) (rest : List ℕ) → SharesFronts [] spelled
-    → length (flat_map row_spelling spelled) < 2 ^ 32 → length restarts < n → (0 < length restarts → AreRestarts restarts spelled)
-    → ((restart : ℕ) (after : List ℕ) → restart < 2 ^ 32 → rest ≡ fixed 4 restart ++ after → AreRestarts (restarts ++ restart ∷ []) spelled → ⊥)
-    → restarts_fault (fresh_starts 0 spelled) n (flat_map (fixed 4) restarts ++ rest) ≡ Some (BadRestart (length restarts))
-restarts_fault-faulty spelled restarts zero rest fronts short within kept broken = absurd (omega arith)
-restarts_fault-faulty spelled [] (suc n) rest fronts short within kept broken =
-    let fresh = fresh_starts 0 spelled in
+pub restarts_fault-faulty : (form : RowForm) (spelled : List Spelled) (restarts : List ℕ) (n : ℕ) (rest : List ℕ) → SharesFronts [] spelled
+    → length (flat_map (row_spelling form) spelled) < 2 ^ 32 → length restarts < n → (0 < length restarts → AreRestarts form restarts spelled)
+    → ((restart : ℕ) (after : List ℕ) → restart < 2 ^ 32 → rest ≡ fixed 4 restart ++ after → AreRestarts form (restarts ++ restart ∷ []) spelled → ⊥)
+    → restarts_fault (fresh_starts form 0 spelled) n (flat_map (fixed 4) restarts ++ rest) ≡ Some (BadRestart (length restarts))
+restarts_fault-faulty form spelled restarts zero rest fronts short within kept broken = absurd (omega arith)
+restarts_fault-faulty form spelled [] (suc n) rest fronts short within kept broken =
+    let fresh = fresh_starts form 0 spelled in
     let none = none-passes (λ first. first == 0) rest (number_where (λ first. first == 0) rest) refl
     (λ v read passes.
     let zeroth : v ≡ 0 = eqb-true v 0 passes in
     let first : fixed_at 4 rest ≡ Some 0 = read ∙ ap Some zeroth in
-    broken 0 (drop 4 rest) (omega arith) (fixed_at-joined 4 0 rest first) (restarts-from_parts [] spelled fronts tt)) in
+    broken 0 (drop 4 rest) (omega arith) (fixed_at-joined 4 0 rest first) (restarts-from_parts form [] spelled fronts tt)) in
     ap (λ (read : Option ℕ). by_number (BadRestart 0) read (λ first. restart_fault fresh n 1 first (drop 4 rest))) none
-restarts_fault-faulty spelled (r ∷ restarts) (suc n) rest fronts short within kept broken =
-    let parts = restarts-parts (r ∷ restarts) spelled (kept (omega arith)) in
+restarts_fault-faulty form spelled (r ∷ restarts) (suc n) rest fronts short within kept broken =
+    let parts = restarts-parts form (r ∷ restarts) spelled (kept (omega arith)) in
     let whole : r ∷ restarts ≡ 0 ∷ parts.0 = parts.1 in
-    subst (λ (xs : List ℕ). length xs < suc n → NoneKeeps spelled xs rest
-    → restarts_fault (fresh_starts 0 spelled) (suc n) (flat_map (fixed 4) xs ++ rest) ≡ Some (BadRestart (length xs))) (sym whole)
-    (zero-first spelled parts.0 n rest fronts short parts.2) within broken
+    subst (λ (xs : List ℕ). length xs < suc n → NoneKeeps form spelled xs rest
+    → restarts_fault (fresh_starts form 0 spelled) (suc n) (flat_map (fixed 4) xs ++ rest) ≡ Some (BadRestart (length xs))) (sym whole)
+    (zero-first form spelled parts.0 n rest fronts short parts.2) within broken

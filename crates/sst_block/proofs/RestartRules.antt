@@ -6,6 +6,7 @@ use Rattle.std.specs.Cmp.{nat_eq_equiv}
 use Rattle.std.proofs.lemmas.Bool.{lt-ltb, ltb-true, eqb-true, eq-eqb, and_parts, and_from}
 use Rattle.std.proofs.lemmas.List.Elements.{All-nil, All-cons, All-head, All-tail, All-append, All-weaker, All-contains}
 use Rattle.std.proofs.lemmas.Map.Views.{list_any-from_Contains, Contains-from_any}
+use Rattle.sst_block.specs.declared.row_form.RowForm.{RowForm}
 use Rattle.sst_block.specs.Block.{Spelled, SharesFronts, row_spelling, fresh_starts, AreRestarts}
 use Rattle.sst_block.proofs.BlockLaws.{All-one_if, rises-cons}
 use Rattle.sst_block.proofs.RestartsRead.{Rises}
@@ -33,46 +34,46 @@ rises-parts fresh before (r ∷ rest) rises =
     )
 
 -- the restarts of a block: 0, and others that rise
-pub restarts-parts : (restarts : List ℕ) (spelled : List Spelled) → AreRestarts restarts spelled
-    → (rest : List ℕ) × (restarts ≡ 0 ∷ rest) × Rises (fresh_starts 0 spelled) 0 rest
-restarts-parts restarts [] are = ([], are, tt)
-restarts-parts [] (s ∷ more) are = cc
-restarts-parts (first ∷ rest) (s ∷ more) are =
+pub restarts-parts : (form : RowForm) (restarts : List ℕ) (spelled : List Spelled) → AreRestarts form restarts spelled
+    → (rest : List ℕ) × (restarts ≡ 0 ∷ rest) × Rises (fresh_starts form 0 spelled) 0 rest
+restarts-parts form restarts [] are = ([], are, tt)
+restarts-parts form [] (s ∷ more) are = cc
+restarts-parts form (first ∷ rest) (s ∷ more) are =
     let zeroth : first ≡ 0 = cc (are.0) in
     let same : first ∷ rest ≡ 0 ∷ rest = ap (λ (x : ℕ). x ∷ rest) zeroth in
-    (rest, same, rises-from (fresh_starts 0 (s ∷ more)) 0 rest (subst (λ (xs : List ℕ). IsStrictlyIncreasing xs) same are.1) (All-tail (Contains (fresh_starts 0 (s ∷ more))) first rest are.2))
+    (rest, same, rises-from (fresh_starts form 0 (s ∷ more)) 0 rest (subst (λ (xs : List ℕ). IsStrictlyIncreasing xs) same are.1) (All-tail (Contains (fresh_starts form 0 (s ∷ more))) first rest are.2))
 
 first-fresh : (test : Bool) (at : ℕ) (others : List ℕ) → test ≡ true → Contains ((if test then at ∷ [] else []) ++ others) at
 first-fresh true at others is = (0, omega arith, refl)
 first-fresh false at others is = cc
 
 -- 0, and others that rise, are the restarts of a block
-pub restarts-from_parts : (rest : List ℕ) (spelled : List Spelled) → SharesFronts [] spelled → Rises (fresh_starts 0 spelled) 0 rest
-    → AreRestarts (0 ∷ rest) spelled
-restarts-from_parts [] [] fronts rises = refl
-restarts-from_parts (r ∷ rest) [] fronts rises = let tests = and_parts (nat_lt 0 r) (list_any (nat_eq r) []) rises.0 in cc
-restarts-from_parts rest (s ∷ more) fronts rises =
-    let fresh = fresh_starts 0 (s ∷ more) in
+pub restarts-from_parts : (form : RowForm) (rest : List ℕ) (spelled : List Spelled) → SharesFronts [] spelled → Rises (fresh_starts form 0 spelled) 0 rest
+    → AreRestarts form (0 ∷ rest) spelled
+restarts-from_parts form [] [] fronts rises = refl
+restarts-from_parts form (r ∷ rest) [] fronts rises = let tests = and_parts (nat_lt 0 r) (list_any (nat_eq r) []) rises.0 in cc
+restarts-from_parts form rest (s ∷ more) fronts rises =
+    let fresh = fresh_starts form 0 (s ∷ more) in
     let parts = rises-parts fresh 0 rest rises in
     let none : s.shared ≡ 0 = omega (arith, fronts.0) in
-    (refl, parts.0, All-cons (Contains fresh) 0 rest (first-fresh (s.shared == 0) 0 (fresh_starts (0 + length (row_spelling s)) more) (eq-eqb s.shared 0 none)) parts.1)
+    (refl, parts.0, All-cons (Contains fresh) 0 rest (first-fresh (s.shared == 0) 0 (fresh_starts form (0 + length (row_spelling form s)) more) (eq-eqb s.shared 0 none)) parts.1)
 
 -- no row begins after the rows
-fresh-within : (at : ℕ) (spelled : List Spelled) → All (λ r. r ≤ at + length (flat_map row_spelling spelled)) (fresh_starts at spelled)
-fresh-within at [] = All-nil (λ r. r ≤ at + length (flat_map row_spelling []))
-fresh-within at (s ∷ rest) =
-    let size = length-append (row_spelling s) (flat_map row_spelling rest) in
-    let end = at + length (flat_map row_spelling (s ∷ rest)) in
-    let others = fresh-within (at + length (row_spelling s)) rest in
-    All-append (λ r. r ≤ end) (if s.shared == 0 then at ∷ [] else []) (fresh_starts (at + length (row_spelling s)) rest)
+fresh-within : (form : RowForm) (at : ℕ) (spelled : List Spelled) → All (λ r. r ≤ at + length (flat_map (row_spelling form) spelled)) (fresh_starts form at spelled)
+fresh-within form at [] = All-nil (λ r. r ≤ at + length (flat_map (row_spelling form) []))
+fresh-within form at (s ∷ rest) =
+    let size = length-append (row_spelling form s) (flat_map (row_spelling form) rest) in
+    let end = at + length (flat_map (row_spelling form) (s ∷ rest)) in
+    let others = fresh-within form (at + length (row_spelling form s)) rest in
+    All-append (λ r. r ≤ end) (if s.shared == 0 then at ∷ [] else []) (fresh_starts form (at + length (row_spelling form s)) rest)
     (All-one_if (λ r. r ≤ end) (s.shared == 0) at (omega arith))
-    (All-weaker (λ r. r ≤ at + length (row_spelling s) + length (flat_map row_spelling rest)) (λ r. r ≤ end) (λ r h. omega arith) (fresh_starts (at + length (row_spelling s)) rest) others)
+    (All-weaker (λ r. r ≤ at + length (row_spelling form s) + length (flat_map (row_spelling form) rest)) (λ r. r ≤ end) (λ r h. omega arith) (fresh_starts form (at + length (row_spelling form s)) rest) others)
 
 -- no restart is after the rows
-pub restarts-within : (n : ℕ) (restarts : List ℕ) (spelled : List Spelled) → Rises (fresh_starts 0 spelled) 0 restarts
-    → length (flat_map row_spelling spelled) < n → All (λ r. r < n) restarts
-restarts-within n restarts spelled rises short =
-    let fresh = fresh_starts 0 spelled in
+pub restarts-within : (form : RowForm) (n : ℕ) (restarts : List ℕ) (spelled : List Spelled) → Rises (fresh_starts form 0 spelled) 0 restarts
+    → length (flat_map (row_spelling form) spelled) < n → All (λ r. r < n) restarts
+restarts-within form n restarts spelled rises short =
+    let fresh = fresh_starts form 0 spelled in
     All-weaker (Contains fresh) (λ r. r < n)
-    (λ r among. let low = All-contains (λ r. r ≤ 0 + length (flat_map row_spelling spelled)) fresh r (fresh-within 0 spelled) among in omega arith)
+    (λ r among. let low = All-contains (λ r. r ≤ 0 + length (flat_map (row_spelling form) spelled)) fresh r (fresh-within form 0 spelled) among in omega arith)
     restarts (rises-parts fresh 0 restarts rises).1

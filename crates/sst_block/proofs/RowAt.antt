@@ -8,8 +8,10 @@ use Rattle.sst_num.specs.Spelling.{varint}
 use Rattle.sst_num.specs.NumberReading.{varint32_at}
 use Rattle.sst_num.proofs.Groups.{varint-some}
 use Rattle.sst_num.proofs.NumberReading.{varint32_at-varint, varint32_at-found}
-use Rattle.sst_block.specs.Block.{Spelled, common, row_spelling}
+use Rattle.sst_block.specs.declared.row_form.RowForm.{RowForm}
+use Rattle.sst_block.specs.Block.{Spelled, common, row_spelling, value_length, SpellsLengths}
 use Rattle.sst_block.specs.BlockReading.{Lengths, lengths_at, are_within, row_by, row_of_lengths, row_at}
+use Rattle.sst_block.proofs.Spellings.{value_length-spelled, row_spelling-whole}
 use Rattle.sst_block.proofs.Fronts.{common-same, common-take, common-le_left, common-le_right}
 
 -- the three lengths are read again, whatever follows
@@ -87,27 +89,36 @@ lengths_of s = record {
   used = length (varint s.shared) + length (varint (length s.row.key - s.shared)) + length (varint (length s.row.value));
 }
 
--- a row before other bytes
-row-joined : (s : Spelled) (after : List ℕ) → row_spelling s ++ after
+-- a row before other bytes, where its three lengths are there
+row-joined : (form : RowForm) (s : Spelled) (after : List ℕ) → SpellsLengths form → row_spelling form s ++ after
     ≡ varint s.shared ++ (varint (length s.row.key - s.shared) ++ (varint (length s.row.value) ++ (drop s.shared s.row.key ++ (s.row.value ++ after))))
-row-joined s after = simp append_assoc
+row-joined form s after spells = ap (λ (xs : List ℕ). xs ++ after) (row_spelling-whole form s spells) ∙ simp append_assoc
 
 -- how long a spelled row is
-pub length-row : (s : Spelled) → length (row_spelling s)
-    ≡ length (varint s.shared) + length (varint (length s.row.key - s.shared)) + length (varint (length s.row.value))
+pub length-row : (form : RowForm) (s : Spelled) → length (row_spelling form s)
+    ≡ length (varint s.shared) + length (varint (length s.row.key - s.shared)) + length (value_length form s.row.value)
     + (length s.row.key - s.shared) + length s.row.value
-length-row s =
+length-row form s =
     let rest = drop s.shared s.row.key in
+    let said = value_length form s.row.value in
     let size = length-drop s.shared s.row.key in
     let a = length-append rest s.row.value in
-    let b = length-append (varint (length s.row.value)) (rest ++ s.row.value) in
-    let c = length-append (varint (length s.row.key - s.shared)) (varint (length s.row.value) ++ (rest ++ s.row.value)) in
-    let d = length-append (varint s.shared) (varint (length s.row.key - s.shared) ++ (varint (length s.row.value) ++ (rest ++ s.row.value))) in
+    let b = length-append said (rest ++ s.row.value) in
+    let c = length-append (varint (length s.row.key - s.shared)) (said ++ (rest ++ s.row.value)) in
+    let d = length-append (varint s.shared) (varint (length s.row.key - s.shared) ++ (said ++ (rest ++ s.row.value))) in
     omega (arith, size, a, b, c, d)
 
+-- and how long with its three lengths
+pub length-whole : (form : RowForm) (s : Spelled) → SpellsLengths form → length (row_spelling form s)
+    ≡ length (varint s.shared) + length (varint (length s.row.key - s.shared)) + length (varint (length s.row.value))
+    + (length s.row.key - s.shared) + length s.row.value
+length-whole form s spells =
+    let said : length (value_length form s.row.value) ≡ length (varint (length s.row.value)) = ap length (value_length-spelled form s.row.value spells) in
+    omega (arith, length-row form s, said)
+
 -- a row is no shorter than its value
-pub value-within : (s : Spelled) → length s.row.value ≤ length (row_spelling s)
-value-within s = omega (arith, length-row s)
+pub value-within : (form : RowForm) (s : Spelled) → length s.row.value ≤ length (row_spelling form s)
+value-within form s = omega (arith, length-row form s)
 
 drop-three : (a b c tail : List ℕ) → drop (length a + length b + length c) (a ++ (b ++ (c ++ tail))) ≡ tail
 drop-three a b c tail =
@@ -123,21 +134,21 @@ key-again n before key h =
     rw front (take-append-drop n key)
 
 -- the row that is read of a spelled row's lengths
-row_by-spelled : (before after : List ℕ) (s : Spelled) → s.shared ≤ common before s.row.key
-    → row_by before (row_spelling s ++ after) (lengths_of s) ≡ s
-row_by-spelled before after s shares =
+row_by-spelled : (form : RowForm) (before after : List ℕ) (s : Spelled) → SpellsLengths form → s.shared ≤ common before s.row.key
+    → row_by before (row_spelling form s ++ after) (lengths_of s) ≡ s
+row_by-spelled form before after s spells shares =
     let l = lengths_of s in
     let within = common-le_right before s.row.key in
     let size : length (drop s.shared s.row.key) ≡ l.rest = length-drop s.shared s.row.key in
-    let behind : drop l.used (row_spelling s ++ after) ≡ drop s.shared s.row.key ++ (s.row.value ++ after) =
-    ap (drop l.used) (row-joined s after) ∙ drop-three (varint s.shared) (varint l.rest) (varint l.value) (drop s.shared s.row.key ++ (s.row.value ++ after)) in
-    let last : drop (l.used + l.rest) (row_spelling s ++ after) ≡ s.row.value ++ after =
-    sym (drop-drop l.rest l.used (row_spelling s ++ after)) ∙ ap (drop l.rest) behind ∙ drop_at (drop s.shared s.row.key) (s.row.value ++ after) l.rest size in
-    let value : take l.value (drop (l.used + l.rest) (row_spelling s ++ after)) ≡ s.row.value =
+    let behind : drop l.used (row_spelling form s ++ after) ≡ drop s.shared s.row.key ++ (s.row.value ++ after) =
+    ap (drop l.used) (row-joined form s after spells) ∙ drop-three (varint s.shared) (varint l.rest) (varint l.value) (drop s.shared s.row.key ++ (s.row.value ++ after)) in
+    let last : drop (l.used + l.rest) (row_spelling form s ++ after) ≡ s.row.value ++ after =
+    sym (drop-drop l.rest l.used (row_spelling form s ++ after)) ∙ ap (drop l.rest) behind ∙ drop_at (drop s.shared s.row.key) (s.row.value ++ after) l.rest size in
+    let value : take l.value (drop (l.used + l.rest) (row_spelling form s ++ after)) ≡ s.row.value =
     ap (take l.value) last ∙ take_at s.row.value after l.value refl in
-    let key : take s.shared before ++ take l.rest (drop l.used (row_spelling s ++ after)) ≡ s.row.key =
+    let key : take s.shared before ++ take l.rest (drop l.used (row_spelling form s ++ after)) ≡ s.row.key =
     ap (λ (xs : List ℕ). take s.shared before ++ xs) (ap (take l.rest) behind ∙ take_at (drop s.shared s.row.key) (s.row.value ++ after) l.rest size) ∙ key-again s.shared before s.row.key shares in
-    ap (λ (k : List ℕ). record { shared = s.shared; row = record { key = k; value = take l.value (drop (l.used + l.rest) (row_spelling s ++ after)) } }) key
+    ap (λ (k : List ℕ). record { shared = s.shared; row = record { key = k; value = take l.value (drop (l.used + l.rest) (row_spelling form s ++ after)) } }) key
     ∙ ap (λ (v : List ℕ). record { shared = s.shared; row = record { key = s.row.key; value = v } }) value
 
 -- good lengths make a row
@@ -150,40 +161,40 @@ row_at-made before bytes l s n read good made takes =
     ∙ ap (λ (r : Spelled). Some (r, l.used + l.rest + l.value)) made ∙ ap (λ (k : ℕ). Some (s, k)) takes
 
 -- a spelled row is read again, whatever follows
-pub row_at-spelled : (before after : List ℕ) (s : Spelled) → s.shared ≤ common before s.row.key → length s.row.key ≤ 65544
-    → length s.row.value < 2 ^ 32 → row_at before (row_spelling s ++ after) ≡ Some (s, length (row_spelling s))
-row_at-spelled before after s shares short fits =
+pub row_at-spelled : (form : RowForm) (before after : List ℕ) (s : Spelled) → SpellsLengths form → s.shared ≤ common before s.row.key → length s.row.key ≤ 65544
+    → length s.row.value < 2 ^ 32 → row_at before (row_spelling form s ++ after) ≡ Some (s, length (row_spelling form s))
+row_at-spelled form before after s spells shares short fits =
     let l = lengths_of s in
-    let bytes = row_spelling s ++ after in
+    let bytes = row_spelling form s ++ after in
     let low : l.shared ≤ length before = omega (arith, shares, common-le_left before s.row.key) in
     let within = common-le_right before s.row.key in
-    let takes : l.used + l.rest + l.value ≡ length (row_spelling s) = sym (length-row s) in
-    let room : l.used + l.rest + l.value ≤ length bytes = omega (arith, takes, length-append (row_spelling s) after) in
+    let takes : l.used + l.rest + l.value ≡ length (row_spelling form s) = sym (length-whole form s spells) in
+    let room : l.used + l.rest + l.value ≤ length bytes = omega (arith, takes, length-append (row_spelling form s) after) in
     let key : l.shared + l.rest ≤ 65544 = omega (arith, shares, within, short) in
     let small : l.rest < 2 ^ 32 = omega (arith, short) in
     let read : lengths_at bytes ≡ Some l =
-    ap lengths_at (row-joined s after) ∙ lengths_at-spelled l.shared l.rest l.value (drop s.shared s.row.key ++ (s.row.value ++ after)) (omega (arith, key)) small fits in
+    ap lengths_at (row-joined form s after spells) ∙ lengths_at-spelled l.shared l.rest l.value (drop s.shared s.row.key ++ (s.row.value ++ after)) (omega (arith, key)) small fits in
     let good : are_within before (length bytes) l ≡ true =
     and_from _ _ (le-leb l.shared (length before) low)
     (and_from _ _ (le-leb (l.used + l.rest + l.value) (length bytes) room) (le-leb (l.shared + l.rest) 65544 key)) in
-    row_at-made before bytes l s (length (row_spelling s)) read good (row_by-spelled before after s shares) takes
+    row_at-made before bytes l s (length (row_spelling form s)) read good (row_by-spelled form before after s spells shares) takes
 
 -- the row stands at the front of the bytes
-pub record RowStands (before bytes : List ℕ) (s : Spelled) (used : ℕ) : Type 0 where
-  pub joined : bytes ≡ row_spelling s ++ drop used bytes
-  pub takes : used ≡ length (row_spelling s)
+pub record RowStands (form : RowForm) (before bytes : List ℕ) (s : Spelled) (used : ℕ) : Type 0 where
+  pub joined : bytes ≡ row_spelling form s ++ drop used bytes
+  pub takes : used ≡ length (row_spelling form s)
   pub some : 0 < used
   pub shares : s.shared ≤ common before s.row.key
   pub short : length s.row.key ≤ 65544
   pub fits : length s.row.value < 2 ^ 32
 
 -- the key and value that lengths cut out of the bytes behind them
-row-cut : (before tail : List ℕ) (l : Lengths) (key value : List ℕ)
+row-cut : (form : RowForm) (before tail : List ℕ) (l : Lengths) (key value : List ℕ) → SpellsLengths form
     → key ≡ take l.shared before ++ take l.rest tail → value ≡ take l.value (drop l.rest tail)
     → l.shared ≤ length before → l.rest + l.value ≤ length tail
-    → (length key ≡ l.shared + l.rest) × (length value ≡ l.value) × (row_spelling (record { shared = l.shared; row = record { key = key; value = value } })
+    → (length key ≡ l.shared + l.rest) × (length value ≡ l.value) × (row_spelling form (record { shared = l.shared; row = record { key = key; value = value } })
     ++ drop (l.rest + l.value) tail ≡ varint l.shared ++ (varint l.rest ++ (varint l.value ++ tail)))
-row-cut before tail l key value is_key is_value low room =
+row-cut form before tail l key value spells is_key is_value low room =
     let front = length-take-le l.shared before low in
     let end : length (take l.rest tail) ≡ l.rest = length-take-le l.rest tail (omega arith) in
     let behind : l.value ≤ length (drop l.rest tail) = omega (arith, length-drop l.rest tail) in
@@ -199,7 +210,7 @@ row-cut before tail l key value is_key is_value low room =
     let s : Spelled = record { shared = l.shared; row = record { key = key; value = value } } in (
       size,
       last,
-      row-joined s (drop (l.rest + l.value) tail)
+      row-joined form s (drop (l.rest + l.value) tail) spells
           ∙ ap (λ (n : ℕ). varint l.shared ++ (varint n ++ (varint (length value) ++ (drop l.shared key ++ (value ++ drop (l.rest + l.value) tail))))) rest
           ∙ ap (λ (n : ℕ). varint l.shared ++ (varint l.rest ++ (varint n ++ (drop l.shared key ++ (value ++ drop (l.rest + l.value) tail))))) last
           ∙ ap (λ (xs : List ℕ). varint l.shared ++ (varint l.rest ++ (varint l.value ++ (xs ++ (value ++ drop (l.rest + l.value) tail))))) own
@@ -207,10 +218,10 @@ row-cut before tail l key value is_key is_value low room =
     )
 
 -- the row that is cut out by good lengths stands at the front
-row-stands : (before bytes : List ℕ) (l : Lengths) → LengthsStand bytes l → l.shared ≤ length before
+row-stands : (form : RowForm) (before bytes : List ℕ) (l : Lengths) → SpellsLengths form → LengthsStand bytes l → l.shared ≤ length before
     → l.used + l.rest + l.value ≤ length bytes → l.shared + l.rest ≤ 65544
-    → RowStands before bytes (row_by before bytes l) (l.used + l.rest + l.value)
-row-stands before bytes l stands low room short =
+    → RowStands form before bytes (row_by before bytes l) (l.used + l.rest + l.value)
+row-stands form before bytes l spells stands low room short =
     let tail = drop l.used bytes in
     let s = row_by before bytes l in
     let used = l.used + l.rest + l.value in
@@ -219,14 +230,14 @@ row-stands before bytes l stands low room short =
     ∙ drop-three (varint l.shared) (varint l.rest) (varint l.value) stands.tail in
     let value : s.row.value ≡ take l.value (drop l.rest tail) = ap (take l.value) (sym (drop-drop l.rest l.used bytes)) in
     let size : length tail ≡ length bytes - l.used = length-drop l.used bytes in
-    let cut = row-cut before tail l s.row.key s.row.value refl value low (omega arith) in
+    let cut = row-cut form before tail l s.row.key s.row.value spells refl value low (omega arith) in
     let sum : l.used + (l.rest + l.value) ≡ used = omega arith in
     let after : drop (l.rest + l.value) tail ≡ drop used bytes =
     drop-drop (l.rest + l.value) l.used bytes ∙ ap (λ (n : ℕ). drop n bytes) sum in
-    let joined : bytes ≡ row_spelling s ++ drop used bytes =
+    let joined : bytes ≡ row_spelling form s ++ drop used bytes =
     stands.joined ∙ ap (λ (xs : List ℕ). varint l.shared ++ (varint l.rest ++ (varint l.value ++ xs))) (sym left)
-    ∙ sym cut.2 ∙ ap (λ (xs : List ℕ). row_spelling s ++ xs) after in
-    let whole : length bytes ≡ length (row_spelling s) + length (drop used bytes) = ap length joined ∙ length-append (row_spelling s) (drop used bytes) in
+    ∙ sym cut.2 ∙ ap (λ (xs : List ℕ). row_spelling form s ++ xs) after in
+    let whole : length bytes ≡ length (row_spelling form s) + length (drop used bytes) = ap length joined ∙ length-append (row_spelling form s) (drop used bytes) in
     let behind : length (drop used bytes) ≡ length bytes - used = length-drop used bytes in
     record {
       joined = joined;
@@ -238,13 +249,13 @@ row-stands before bytes l stands low room short =
     }
 
 -- a row that was read stands at the front
-pub row_at-found : (before bytes : List ℕ) (s : Spelled) (used : ℕ) → row_at before bytes ≡ Some (s, used) → RowStands before bytes s used
+pub row_at-found : (form : RowForm) (before bytes : List ℕ) (s : Spelled) (used : ℕ) → SpellsLengths form → row_at before bytes ≡ Some (s, used) → RowStands form before bytes s used
 unfolding row_at
-row_at-found before bytes s used read =
+row_at-found form before bytes s used spells read =
     option_and_then_some (row_of_lengths before bytes) (lengths_at bytes) (s, used) read
     (λ l first last.
     let parts = cond_some (are_within before (length bytes) l) (row_by before bytes l, l.used + l.rest + l.value) (s, used) last in
     let a = and_parts _ _ parts.0 in
     let b = and_parts _ _ a.1 in
-    let stands = row-stands before bytes l (lengths_at-found bytes l first) (leb-true _ _ a.0) (leb-true _ _ b.0) (leb-true _ _ b.1) in
-    subst (λ (r : Spelled × ℕ). RowStands before bytes r.0 r.1) parts.1 stands)
+    let stands = row-stands form before bytes l spells (lengths_at-found bytes l first) (leb-true _ _ a.0) (leb-true _ _ b.0) (leb-true _ _ b.1) in
+    subst (λ (r : Spelled × ℕ). RowStands form before bytes r.0 r.1) parts.1 stands)

@@ -5,12 +5,13 @@ use Rattle.sst_block.specs.declared.row_form.RowForm.{RowForm}
 use Rattle.sst_block.specs.declared.row_form.RowForm.TheVariants.{Entries, Names, Index}
 use Rattle.sst_block.specs.declared.fault.BlockFault.{BlockFault}
 use Rattle.sst_block.specs.declared.fault.BlockFault.TheVariants.{BadRow, Disorder, BadKind, BadHandle}
-use Rattle.sst_block.specs.Block.{Spelled, row_spelling}
+use Rattle.sst_block.specs.Block.{Spelled, SpellsLengths, row_spelling}
 use Rattle.sst_block.specs.Builder.{HasNoFlags, last_key}
 use Rattle.sst_block.specs.FirstFault.{rows_spelled, HasGoodLengths, BeginsNoRow, BeginsRow, IsRowFault}
 use Rattle.sst_block.specs.BlockReading.{has_tag, is_internal_key, is_handle, is_after, or_fault, row_fault, key_before, unless, sound_row, row_at, row_read}
 use Rattle.sst_block.proofs.Follows.{last_of, last-key, ordered-last}
 use Rattle.sst_block.proofs.RowAt.{row_at-spelled, row_at-found, RowStands}
+use Rattle.sst_block.proofs.Spellings.{spells-plain}
 use Rattle.sst_block.proofs.RowForms.{internal_key-passes, internal_key-from, handle-passes, handle-from}
 
 -- the first of three tests that failed
@@ -33,31 +34,31 @@ unless_err x None fault is = cc
 unless_err x (Some f) fault is = cc
 
 -- the row that was read has good lengths but for its tag
-pub good-lengths : (form : RowForm) (before bytes : List ℕ) (s : Spelled) (used : ℕ) → RowStands before bytes s used
+pub good-lengths : (form : RowForm) (before bytes : List ℕ) (s : Spelled) (used : ℕ) → RowStands form before bytes s used
     → (has_tag form ≡ true → 8 ≤ length s.row.key) → HasGoodLengths form before s
 good-lengths form before bytes s used stands tagged =
     record { shares = stands.shares; short = stands.short; fits = stands.fits; tagged = tagged }
 
-begins : (form : RowForm) (before bytes : List ℕ) (s : Spelled) (used : ℕ) → RowStands before bytes s used
+begins : (form : RowForm) (before bytes : List ℕ) (s : Spelled) (used : ℕ) → RowStands form before bytes s used
     → (has_tag form ≡ true → 8 ≤ length s.row.key) → BeginsRow form before bytes s
 begins form before bytes s used stands tagged =
     record { after = drop used bytes; joined = stands.joined; lengths = good-lengths form before bytes s used stands tagged }
 
 -- a row that begins the bytes is the one that is read
-pub row-read : (form : RowForm) (before bytes : List ℕ) (s : Spelled) (after : List ℕ) → bytes ≡ row_spelling s ++ after
-    → HasGoodLengths form before s → row_at before bytes ≡ Some (s, length (row_spelling s))
-row-read form before bytes s after joined good =
-    ap (row_at before) joined ∙ row_at-spelled before after s good.shares good.short good.fits
+pub row-read : (form : RowForm) (before bytes : List ℕ) (s : Spelled) (after : List ℕ) → SpellsLengths form → bytes ≡ row_spelling form s ++ after
+    → HasGoodLengths form before s → row_at before bytes ≡ Some (s, length (row_spelling form s))
+row-read form before bytes s after spells joined good =
+    ap (row_at before) joined ∙ row_at-spelled form before after s spells good.shares good.short good.fits
 
 -- no row begins the bytes where none is read
-no-row : (form : RowForm) (before bytes : List ℕ) → row_at before bytes ≡ None → BeginsNoRow form before bytes
-no-row form before bytes none s after joined good = let read = row-read form before bytes s after joined good in cc
+no-row : (form : RowForm) (before bytes : List ℕ) → SpellsLengths form → row_at before bytes ≡ None → BeginsNoRow form before bytes
+no-row form before bytes spells none s after joined good = let read = row-read form before bytes s after spells joined good in cc
 
 -- and none where the one that is read has no room for its tag
-no-tag : (form : RowForm) (before bytes : List ℕ) (r : Spelled × ℕ) → row_at before bytes ≡ Some r → has_tag form ≡ true
+no-tag : (form : RowForm) (before bytes : List ℕ) (r : Spelled × ℕ) → SpellsLengths form → row_at before bytes ≡ Some r → has_tag form ≡ true
     → length r.0.row.key < 8 → BeginsNoRow form before bytes
-no-tag form before bytes r is tag short s after joined good =
-    let read = row-read form before bytes s after joined good in
+no-tag form before bytes r spells is tag short s after joined good =
+    let read = row-read form before bytes s after spells joined good in
     let same : s ≡ r.0 = cc in
     let long : 8 ≤ length r.0.row.key = subst (λ (t : Spelled). 8 ≤ length t.row.key) same (good.tagged tag) in
     absurd (omega (arith, long, short))
@@ -65,14 +66,14 @@ no-tag form before bytes r is tag short s after joined good =
 -- a row that is read, and the place of its fault
 record Failing (form : RowForm) (good : List Spelled) (at : ℕ) (bytes : List ℕ) (r : Spelled × ℕ) : Type 0 where
   read : row_at (last_key [] (rows_spelled good)) bytes ≡ Some r
-  stands : RowStands (last_key [] (rows_spelled good)) bytes r.0 r.1
+  stands : RowStands form (last_key [] (rows_spelled good)) bytes r.0 r.1
 
 entries-fault : (good : List Spelled) (at : ℕ) (bytes : List ℕ) (r : Spelled × ℕ) (fault : BlockFault) → Failing Entries good at bytes r
     → FirstFailed (nat_lt (length r.0.row.key) 8) (is_internal_key r.0.row.key) (is_after Entries (last_of None (rows_spelled good)) r.0.row.key) (BadRow at) (BadKind at) (Disorder at) fault
     → IsRowFault Entries good at bytes fault
 entries-fault good at bytes r fault failing (lengths_failed short is) =
     subst (λ (f : BlockFault). IsRowFault Entries good at bytes f) is
-    (refl, no-tag Entries (last_key [] (rows_spelled good)) bytes r failing.read refl (ltb-true (length r.0.row.key) 8 short))
+    (refl, no-tag Entries (last_key [] (rows_spelled good)) bytes r tt failing.read refl (ltb-true (length r.0.row.key) 8 short))
 entries-fault good at bytes r fault failing (form_failed long misformed is) =
     subst (λ (f : BlockFault). IsRowFault Entries good at bytes f) is (
       refl,
@@ -99,7 +100,7 @@ handles-fault : (good : List Spelled) (at : ℕ) (bytes : List ℕ) (r : Spelled
     → IsRowFault (Index false false) good at bytes fault
 handles-fault good at bytes r fault failing (lengths_failed short is) =
     subst (λ (f : BlockFault). IsRowFault (Index false false) good at bytes f) is
-    (refl, no-tag (Index false false) (last_key [] (rows_spelled good)) bytes r failing.read refl (ltb-true (length r.0.row.key) 8 short))
+    (refl, no-tag (Index false false) (last_key [] (rows_spelled good)) bytes r tt failing.read refl (ltb-true (length r.0.row.key) 8 short))
 handles-fault good at bytes r fault failing (form_failed long misformed is) =
     subst (λ (f : BlockFault). IsRowFault (Index false false) good at bytes f) is (
       refl,
@@ -153,9 +154,9 @@ read-fault : (form : RowForm) (good : List Spelled) (at : ℕ) (bytes : List ℕ
     → IsRowFault form good at bytes fault
 read-fault form good at bytes None fault plain read is =
     let same : BadRow at ≡ fault = cc in
-    subst (λ (f : BlockFault). IsRowFault form good at bytes f) same (refl, no-row form (last_key [] (rows_spelled good)) bytes read)
+    subst (λ (f : BlockFault). IsRowFault form good at bytes f) same (refl, no-row form (last_key [] (rows_spelled good)) bytes (spells-plain form plain) read)
 read-fault form good at bytes (Some r) fault plain read is =
-    some-row-fault form good at bytes r fault plain (record { read = read; stands = row_at-found (last_key [] (rows_spelled good)) bytes r.0 r.1 read })
+    some-row-fault form good at bytes r fault plain (record { read = read; stands = row_at-found form (last_key [] (rows_spelled good)) bytes r.0 r.1 (spells-plain form plain) read })
     (unless_err r (row_fault form at (last_of None (rows_spelled good)) r.0.row) fault is)
 
 -- the fault that is read of a row behind good rows is the row's first

@@ -1,17 +1,17 @@
 -- A row that is read takes as many bytes as its spelling has.
-use Rattle.std.proofs.Common.{◌≡◌, ℕ, ◌+◌, ◌-◌, ◌≤◌, true, false, List, ◌++◌, length, take, drop, Option, Some, None, option_and_then, refl, subst, ◌^◌, if◌then◌else◌, length-append, length-drop, arith}
+use Rattle.std.proofs.Common.{◌≡◌, ℕ, ◌+◌, ◌-◌, ◌≤◌, true, false, List, ◌++◌, length, take, drop, Option, Some, None, option_and_then, refl, subst, ap, ◌^◌, if◌then◌else◌, length-append, length-drop, arith}
 use Rattle.std.specs.Prelude.{nat_lt, Ok}
 use Rattle.std.proofs.lemmas.Bool.{leb-true}
 use Rattle.std.proofs.lemmas.List.{length-take-le}
-use Rattle.std.proofs.Math.Seq.{drop-append_seam}
 use Rattle.sst_block.proofs.Meeting.{both}
+use Rattle.sst_block.proofs.RowAt.{length-whole}
 use Rattle.std.proofs.lemmas.Option.{none-some, option_and_then_some}
 use Rattle.sst_num.specs.Spelling.{varint}
 use Rattle.sst_num.specs.NumberReading.{varint_at, varint32_at, in_32_bits}
 use Rattle.sst_num.proofs.NumberReading.{varint_at-found}
 use Rattle.sst_block.specs.declared.row_form.RowForm.{RowForm}
 use Rattle.sst_block.specs.declared.fault.BlockFault.{BlockFault}
-use Rattle.sst_block.specs.Block.{Spelled, row_spelling}
+use Rattle.sst_block.specs.Block.{Spelled, row_spelling, SpellsLengths}
 use Rattle.sst_block.specs.BlockReading.{Lengths, lengths_at, are_within, row_by, row_of_lengths, row_at, sound_row, row_fault, row_read, unless, key_before}
 
 in_32_bits-same : (inner read : ℕ × ℕ) → in_32_bits inner ≡ Some read → inner ≡ read
@@ -73,15 +73,10 @@ are_within-parts before room l e =
     let second = both _ _ first.1 in
     record { front = leb-true _ _ first.0; fits = leb-true _ _ second.0; key = leb-true _ _ second.1 }
 
-drop_take-front : (before tail : List ℕ) (n : ℕ) → n ≤ length before → drop n (take n before ++ tail) ≡ tail
-drop_take-front before tail n h =
-    let whole : length (take n before) ≡ n = length-take-le n before h in
-    subst (λ k. drop k (take n before ++ tail) ≡ tail) whole (drop-append_seam (take n before) tail)
-
 -- the row of some lengths
-pub row_by-length : (before bytes : List ℕ) (l : Lengths) → Within (length before) (length bytes) l → l.used ≡ length (varint l.shared) + length (varint l.rest) + length (varint l.value)
-    → l.used + l.rest + l.value ≡ length (row_spelling (row_by before bytes l))
-row_by-length before bytes l w e =
+pub row_by-length : (form : RowForm) (before bytes : List ℕ) (l : Lengths) → SpellsLengths form → Within (length before) (length bytes) l → l.used ≡ length (varint l.shared) + length (varint l.rest) + length (varint l.value)
+    → l.used + l.rest + l.value ≡ length (row_spelling form (row_by before bytes l))
+row_by-length form before bytes l spells w e =
     let shared = take l.shared before in
     let rest = take l.rest (drop l.used bytes) in
     let value = take l.value (drop (l.used + l.rest) bytes) in
@@ -89,24 +84,25 @@ row_by-length before bytes l w e =
     let rest_long : length rest ≡ l.rest = length-take-le l.rest (drop l.used bytes) (omega (arith, w.fits, length-drop l.used bytes)) in
     let value_long : length value ≡ l.value = length-take-le l.value (drop (l.used + l.rest) bytes) (omega (arith, w.fits, length-drop (l.used + l.rest) bytes)) in
     let key_long : length (shared ++ rest) - l.shared ≡ l.rest = omega (arith, length-append shared rest, shared_long, rest_long) in
-    rw (drop_take-front before rest l.shared w.front, key_long, value_long)
-    (omega (arith, e, rest_long, value_long, length-append {A = ℕ}))
+    let rest_spelled = ap (λ (n : ℕ). length (varint n)) key_long in
+    let value_spelled = ap (λ (n : ℕ). length (varint n)) value_long in
+    omega (arith, e, length-whole form (row_by before bytes l) spells, key_long, value_long, rest_spelled, value_spelled)
 
-row_of_lengths-length : (before bytes : List ℕ) (l : Lengths) (read : Spelled × ℕ) → l.used ≡ length (varint l.shared) + length (varint l.rest) + length (varint l.value)
-    → row_of_lengths before bytes l ≡ Some read → read.1 ≡ length (row_spelling read.0)
-row_of_lengths-length before bytes l read long e =
-    elim (are_within before (length bytes) l) as (λ b. are_within before (length bytes) l ≡ b → (if b then Some (row_by before bytes l, l.used + l.rest + l.value) else None) ≡ Some read → read.1 ≡ length (row_spelling read.0)) [
+row_of_lengths-length : (form : RowForm) (before bytes : List ℕ) (l : Lengths) (read : Spelled × ℕ) → SpellsLengths form → l.used ≡ length (varint l.shared) + length (varint l.rest) + length (varint l.value)
+    → row_of_lengths before bytes l ≡ Some read → read.1 ≡ length (row_spelling form read.0)
+row_of_lengths-length form before bytes l read spells long e =
+    elim (are_within before (length bytes) l) as (λ b. are_within before (length bytes) l ≡ b → (if b then Some (row_by before bytes l, l.used + l.rest + l.value) else None) ≡ Some read → read.1 ≡ length (row_spelling form read.0)) [
       | true ↦ λ within same.
           let is : (row_by before bytes l, l.used + l.rest + l.value) ≡ read = cc in
-          subst (λ (r : Spelled × ℕ). r.1 ≡ length (row_spelling r.0)) is (row_by-length before bytes l (are_within-parts before (length bytes) l within) long)
+          subst (λ (r : Spelled × ℕ). r.1 ≡ length (row_spelling form r.0)) is (row_by-length form before bytes l spells (are_within-parts before (length bytes) l within) long)
       | false ↦ λ within same. absurd (none-some read same)
     ] refl e
 
-pub row_at-length : (before bytes : List ℕ) (read : Spelled × ℕ) → row_at before bytes ≡ Some read → read.1 ≡ length (row_spelling read.0)
+pub row_at-length : (form : RowForm) (before bytes : List ℕ) (read : Spelled × ℕ) → SpellsLengths form → row_at before bytes ≡ Some read → read.1 ≡ length (row_spelling form read.0)
 unfolding row_at
-row_at-length before bytes read e =
+row_at-length form before bytes read spells e =
     option_and_then_some (row_of_lengths before bytes) (lengths_at bytes) read e
-    (λ l first last. row_of_lengths-length before bytes l read (lengths_at-length bytes l first) last)
+    (λ l first last. row_of_lengths-length form before bytes l read spells (lengths_at-length bytes l first) last)
 
 unless-ok : (fault : Option BlockFault) (x read : Spelled × ℕ) → unless x fault ≡ Ok read → Some x ≡ Some read
 unless-ok None x read e = cc
@@ -116,10 +112,10 @@ sound_row-some : (form : RowForm) (at : ℕ) (before : Option (List ℕ)) (found
 sound_row-some form at before None read e = cc
 sound_row-some form at before (Some x) read e = unless-ok (row_fault form at before x.0.row) x read e
 
-pub row_read-length : (form : RowForm) (at : ℕ) (before : Option (List ℕ)) (bytes : List ℕ) (read : Spelled × ℕ) → row_read form at before bytes ≡ Ok read → read.1 ≡ length (row_spelling read.0)
+pub row_read-length : (form : RowForm) (at : ℕ) (before : Option (List ℕ)) (bytes : List ℕ) (read : Spelled × ℕ) → SpellsLengths form → row_read form at before bytes ≡ Ok read → read.1 ≡ length (row_spelling form read.0)
 unfolding row_read
-row_read-length form at before bytes read e =
-    row_at-length (key_before before) bytes read (sound_row-some form at before (row_at (key_before before) bytes) read e)
+row_read-length form at before bytes read spells e =
+    row_at-length form (key_before before) bytes read spells (sound_row-some form at before (row_at (key_before before) bytes) read e)
 
 -- a row that is read stands at the front
 pub row_read-at : (form : RowForm) (at : ℕ) (before : Option (List ℕ)) (bytes : List ℕ) (read : Spelled × ℕ) → row_read form at before bytes ≡ Ok read → row_at (key_before before) bytes ≡ Some read

@@ -9,7 +9,7 @@ use Rattle.std.specs.declared.cmp.Ordering.TheVariants.{Less}
 use Rattle.sst_num.specs.Spelling.{varint, fixed}
 use Rattle.sst_num.proofs.Fixed.{length-fixed}
 use Rattle.sst_block.specs.declared.row_form.RowForm.{RowForm}
-use Rattle.sst_block.specs.Block.{Row, Spelled, common, row_spelling, key_cmp, AreOrdered}
+use Rattle.sst_block.specs.Block.{Row, Spelled, common, value_length, row_spelling, key_cmp, AreOrdered}
 use Rattle.sst_block.specs.Chosen.{chosen, restarts_from, restarts_of}
 use Rattle.sst_block.specs.Builder.{last_key}
 
@@ -34,17 +34,17 @@ chosen-more interval i before (r ∷ rows) row n e =
     ap (λ (rest : List Spelled). record { shared = if i % interval == 0 then 0 else common before r.key; row = r } ∷ rest) (chosen-more interval (i + 1) r.key rows row n (omega arith))
 
 -- a row with the number n, which begins at m, is a restart or isn't
-restarts_from-more : (interval i at : ℕ) (rows : List Spelled) (s : Spelled) (n m : ℕ)
-    → n ≡ i + length rows → m ≡ at + length (flat_map row_spelling rows)
-    → restarts_from interval i at (rows ++ s ∷ []) ≡ restarts_from interval i at rows ++ (if n % interval == 0 then m ∷ [] else [])
-restarts_from-more interval i at [] s n m e place =
+restarts_from-more : (form : RowForm) (interval i at : ℕ) (rows : List Spelled) (s : Spelled) (n m : ℕ)
+    → n ≡ i + length rows → m ≡ at + length (flat_map (row_spelling form) rows)
+    → restarts_from form interval i at (rows ++ s ∷ []) ≡ restarts_from form interval i at rows ++ (if n % interval == 0 then m ∷ [] else [])
+restarts_from-more form interval i at [] s n m e place =
     let here : n ≡ i = omega arith in
     let there : m ≡ at = omega arith in
     rw (here, there) (append-nil (if i % interval == 0 then at ∷ [] else []))
-restarts_from-more interval i at (r ∷ rows) s n m e place =
-    let size = length-append (row_spelling r) (flat_map row_spelling rows) in
-    let rest = restarts_from-more interval (i + 1) (at + length (row_spelling r)) rows s n m (omega arith) (omega (arith, place, size)) in
-    ap (λ (more : List ℕ). (if i % interval == 0 then at ∷ [] else []) ++ more) rest ∙ sym (append_assoc (if i % interval == 0 then at ∷ [] else []) (restarts_from interval (i + 1) (at + length (row_spelling r)) rows) (if n % interval == 0 then m ∷ [] else []))
+restarts_from-more form interval i at (r ∷ rows) s n m e place =
+    let size = length-append (row_spelling form r) (flat_map (row_spelling form) rows) in
+    let rest = restarts_from-more form interval (i + 1) (at + length (row_spelling form r)) rows s n m (omega arith) (omega (arith, place, size)) in
+    ap (λ (more : List ℕ). (if i % interval == 0 then at ∷ [] else []) ++ more) rest ∙ sym (append_assoc (if i % interval == 0 then at ∷ [] else []) (restarts_from form interval (i + 1) (at + length (row_spelling form r)) rows) (if n % interval == 0 then m ∷ [] else []))
 
 restart : (n interval m : ℕ) → n % interval ≡ 0 → (if n % interval == 0 then m ∷ [] else []) ≡ m ∷ []
 restart n interval m e = rw (eq-eqb (n % interval) 0 e) refl
@@ -53,30 +53,30 @@ no_restart : (n interval m : ℕ) → n % interval ≢ 0 → (if n % interval ==
 no_restart n interval m e = rw (ne_eqb (n % interval) 0 e) refl
 
 -- the first row begins at the one restart that is there without it
-pub restarts_of-first : (interval : ℕ) (s : Spelled) → restarts_of interval (s ∷ []) ≡ 0 ∷ []
-restarts_of-first interval s = ap (λ (more : List ℕ). more ++ []) (restart 0 interval 0 (zero-mod interval))
+pub restarts_of-first : (form : RowForm) (interval : ℕ) (s : Spelled) → restarts_of form interval (s ∷ []) ≡ 0 ∷ []
+restarts_of-first form interval s = ap (λ (more : List ℕ). more ++ []) (restart 0 interval 0 (zero-mod interval))
 
 -- a row that comes where a group is full is a restart
-pub restarts_of-full : (interval : ℕ) (rows : List Spelled) (s : Spelled) → 0 < length rows → length rows % interval ≡ 0
-    → restarts_of interval (rows ++ s ∷ []) ≡ restarts_of interval rows ++ length (flat_map row_spelling rows) ∷ []
-restarts_of-full interval [] s some e = absurd (omega arith)
-restarts_of-full interval (r ∷ rows) s some e =
-    restarts_from-more interval 0 0 (r ∷ rows) s (length (r ∷ rows)) (length (flat_map row_spelling (r ∷ rows))) (omega arith) (omega arith)
-    ∙ ap (λ (more : List ℕ). restarts_from interval 0 0 (r ∷ rows) ++ more) (restart (length (r ∷ rows)) interval (length (flat_map row_spelling (r ∷ rows))) e)
+pub restarts_of-full : (form : RowForm) (interval : ℕ) (rows : List Spelled) (s : Spelled) → 0 < length rows → length rows % interval ≡ 0
+    → restarts_of form interval (rows ++ s ∷ []) ≡ restarts_of form interval rows ++ length (flat_map (row_spelling form) rows) ∷ []
+restarts_of-full form interval [] s some e = absurd (omega arith)
+restarts_of-full form interval (r ∷ rows) s some e =
+    restarts_from-more form interval 0 0 (r ∷ rows) s (length (r ∷ rows)) (length (flat_map (row_spelling form) (r ∷ rows))) (omega arith) (omega arith)
+    ∙ ap (λ (more : List ℕ). restarts_from form interval 0 0 (r ∷ rows) ++ more) (restart (length (r ∷ rows)) interval (length (flat_map (row_spelling form) (r ∷ rows))) e)
 
 -- any other row leaves the restarts as they are
-pub restarts_of-within : (interval : ℕ) (rows : List Spelled) (s : Spelled) → 0 < length rows → length rows % interval ≢ 0
-    → restarts_of interval (rows ++ s ∷ []) ≡ restarts_of interval rows
-restarts_of-within interval [] s some e = absurd (omega arith)
-restarts_of-within interval (r ∷ rows) s some e =
-    restarts_from-more interval 0 0 (r ∷ rows) s (length (r ∷ rows)) (length (flat_map row_spelling (r ∷ rows))) (omega arith) (omega arith)
-    ∙ ap (λ (more : List ℕ). restarts_from interval 0 0 (r ∷ rows) ++ more) (no_restart (length (r ∷ rows)) interval (length (flat_map row_spelling (r ∷ rows))) e)
-    ∙ append-nil (restarts_from interval 0 0 (r ∷ rows))
+pub restarts_of-within : (form : RowForm) (interval : ℕ) (rows : List Spelled) (s : Spelled) → 0 < length rows → length rows % interval ≢ 0
+    → restarts_of form interval (rows ++ s ∷ []) ≡ restarts_of form interval rows
+restarts_of-within form interval [] s some e = absurd (omega arith)
+restarts_of-within form interval (r ∷ rows) s some e =
+    restarts_from-more form interval 0 0 (r ∷ rows) s (length (r ∷ rows)) (length (flat_map (row_spelling form) (r ∷ rows))) (omega arith) (omega arith)
+    ∙ ap (λ (more : List ℕ). restarts_from form interval 0 0 (r ∷ rows) ++ more) (no_restart (length (r ∷ rows)) interval (length (flat_map (row_spelling form) (r ∷ rows))) e)
+    ∙ append-nil (restarts_from form interval 0 0 (r ∷ rows))
 
 -- rows one after another, and one more
-pub rows_spelling-more : (rows : List Spelled) (s : Spelled) → flat_map row_spelling (rows ++ s ∷ []) ≡ flat_map row_spelling rows ++ row_spelling s
-rows_spelling-more rows s =
-    flat_map-append row_spelling rows (s ∷ []) ∙ ap (λ (more : List ℕ). flat_map row_spelling rows ++ more) (append-nil (row_spelling s))
+pub rows_spelling-more : (form : RowForm) (rows : List Spelled) (s : Spelled) → flat_map (row_spelling form) (rows ++ s ∷ []) ≡ flat_map (row_spelling form) rows ++ row_spelling form s
+rows_spelling-more form rows s =
+    flat_map-append (row_spelling form) rows (s ∷ []) ∙ ap (λ (more : List ℕ). flat_map (row_spelling form) rows ++ more) (append-nil (row_spelling form s))
 
 pub restarts_spelling-more : (restarts : List ℕ) (at : ℕ) → flat_map (fixed 4) (restarts ++ at ∷ []) ≡ flat_map (fixed 4) restarts ++ fixed 4 at
 restarts_spelling-more restarts at =
@@ -91,13 +91,14 @@ length-restarts (at ∷ restarts) =
     omega (arith, rest, here, both)
 
 -- a value is no longer than its row
-pub value-le : (s : Spelled) → length s.row.value ≤ length (row_spelling s)
-value-le s =
+pub value-le : (form : RowForm) (s : Spelled) → length s.row.value ≤ length (row_spelling form s)
+value-le form s =
     let rest = drop s.shared s.row.key in
     let a = length-append rest s.row.value in
-    let b = length-append (varint (length s.row.value)) (rest ++ s.row.value) in
-    let c = length-append (varint (length s.row.key - s.shared)) (varint (length s.row.value) ++ (rest ++ s.row.value)) in
-    let d = length-append (varint s.shared) (varint (length s.row.key - s.shared) ++ (varint (length s.row.value) ++ (rest ++ s.row.value))) in
+    let said = value_length form s.row.value in
+    let b = length-append said (rest ++ s.row.value) in
+    let c = length-append (varint (length s.row.key - s.shared)) (said ++ (rest ++ s.row.value)) in
+    let d = length-append (varint s.shared) (varint (length s.row.key - s.shared) ++ (said ++ (rest ++ s.row.value))) in
     omega (arith, a, b, c, d)
 
 -- a row whose key is after the last keeps the order

@@ -6,7 +6,7 @@ use Rattle.std.proofs.lemmas.List.{drop_all}
 use Rattle.sst_block.specs.declared.row_form.RowForm.{RowForm}
 use Rattle.sst_block.specs.declared.fault.BlockFault.{BlockFault}
 use Rattle.sst_block.specs.declared.iter.BlockIter.{BlockIter}
-use Rattle.sst_block.specs.Block.{Row, Spelled, fresh_starts}
+use Rattle.sst_block.specs.Block.{Row, Spelled, SpellsLengths, fresh_starts}
 use Rattle.sst_block.specs.BlockReading.{Reads, Gives, block_read, parts_read, restart_count, rows_end, restarts_fault, unless, then_read, onto_rows, row_at, row_read, rows_from, rows_read, key_before}
 use Rattle.sst_block.specs.Iter.{AreRows, Shows, Walks, IsAt, place_of}
 use Rattle.sst_block.proofs.Meeting.{row-some}
@@ -28,23 +28,23 @@ one-are before bytes read (Ok rows) spelled front others e =
     subst (λ (l : List Spelled). AreRows before bytes (map (λ (s : Spelled). s.row) l)) same whole
 
 -- the rows that are read are the rows that stand there
-rows_from-are : (n : ℕ) (form : RowForm) (at : ℕ) (before : Option (List ℕ)) (bytes : List ℕ) (spelled : List Spelled) → length bytes ≤ n
+rows_from-are : (n : ℕ) (form : RowForm) (at : ℕ) (before : Option (List ℕ)) (bytes : List ℕ) (spelled : List Spelled) → SpellsLengths form → length bytes ≤ n
     → rows_from n form at before bytes ≡ Ok spelled → AreRows (key_before before) bytes (map (λ (s : Spelled). s.row) spelled)
-rows_from-are zero form at before [] spelled h e = none-are (key_before before) spelled (Ok []) refl e
-rows_from-are zero form at before (b ∷ bytes) spelled h e = absurd (omega arith)
-rows_from-are (suc n) form at before [] spelled h e = none-are (key_before before) spelled (Ok []) refl e
-rows_from-are (suc n) form at before (b ∷ bytes) spelled h e =
+rows_from-are zero form at before [] spelled spells h e = none-are (key_before before) spelled (Ok []) refl e
+rows_from-are zero form at before (b ∷ bytes) spelled spells h e = absurd (omega arith)
+rows_from-are (suc n) form at before [] spelled spells h e = none-are (key_before before) spelled (Ok []) refl e
+rows_from-are (suc n) form at before (b ∷ bytes) spelled spells h e =
     elim (row_read form at before (b ∷ bytes)) as (λ r. row_read form at before (b ∷ bytes) ≡ r
     → then_read r (λ read. onto_rows read.0 (rows_from n form (at + read.1) (Some read.0.row.key) (drop read.1 (b ∷ bytes)))) ≡ Ok spelled
     → AreRows (key_before before) (b ∷ bytes) (map (λ (s : Spelled). s.row) spelled)) [
       | Err fault ↦ λ same said. cc
       | Ok read ↦ λ same said.
-          let long = row_read-length form at before (b ∷ bytes) read same in
-          let some = row-some read.0 in
+          let long = row_read-length form at before (b ∷ bytes) read spells same in
+          let some = row-some form read.0 in
           let left = length-drop read.1 (b ∷ bytes) in
           one-are (key_before before) (b ∷ bytes) read (rows_from n form (at + read.1) (Some read.0.row.key) (drop read.1 (b ∷ bytes))) spelled
           (row_read-at form at before (b ∷ bytes) read same)
-          (λ rows next. rows_from-are n form (at + read.1) (Some read.0.row.key) (drop read.1 (b ∷ bytes)) rows (omega (arith, long, some, left)) next)
+          (λ rows next. rows_from-are n form (at + read.1) (Some read.0.row.key) (drop read.1 (b ∷ bytes)) rows spells (omega (arith, long, some, left)) next)
           said
     ] refl e
 
@@ -58,16 +58,16 @@ sound-rows (Err found) fault spelled e = cc
 sound-rows (Ok rows) fault spelled e = unless-same rows spelled (fault rows) e
 
 -- what is read of a block are the rows before its restarts
-pub Reads-rows : (form : RowForm) (block left : List ℕ) (rows : List Row) → Reads form block rows
+pub Reads-rows : (form : RowForm) (block left : List ℕ) (rows : List Row) → SpellsLengths form → Reads form block rows
     → ((count : ℕ) → restart_count block ≡ Some count → left ≡ take (rows_end block count) block) → AreRows [] left rows
 unfolding block_read rows_read
-Reads-rows form block left rows r front =
+Reads-rows form block left rows spells r front =
     elim (restart_count block) as (λ c. restart_count block ≡ c → parts_read form block c ≡ Ok r.spelled → AreRows [] left rows) [
       | None ↦ λ same e. cc
       | Some count ↦ λ same e.
           let bytes = take (rows_end block count) block in
-          let read = sound-rows (rows_read form bytes) (λ rows. restarts_fault (fresh_starts 0 rows) count (drop (rows_end block count) block)) r.spelled e in
-          let are = rows_from-are (length bytes) form 0 None bytes r.spelled (omega arith) read in
+          let read = sound-rows (rows_read form bytes) (λ rows. restarts_fault (fresh_starts form 0 rows) count (drop (rows_end block count) block)) r.spelled e in
+          let are = rows_from-are (length bytes) form 0 None bytes r.spelled spells (omega arith) read in
           let all = subst (λ (l : List Row). AreRows [] bytes l) r.are_rows are in
           subst (λ (l : List ℕ). AreRows [] l rows) (sym (front count same)) all
     ] refl r.reads

@@ -13,6 +13,7 @@ use Rattle.sst_num.specs.Spelling.{varint, fixed, handle_spelling}
 use Rattle.sst_key.specs.declared.entries.Kind.{Kind}
 use Rattle.sst_key.specs.Entry.{internal_key}
 use Rattle.sst_key.specs.InternalKey.{internal_cmp}
+use Rattle.sst_key.specs.Limits.{stored_key_limit, block_limit}
 use Rattle.sst_block.specs.declared.row_form.RowForm.{RowForm}
 use Rattle.sst_block.specs.declared.row_form.RowForm.TheVariants.{Entries, Names, Index}
 
@@ -36,11 +37,29 @@ common [] b = 0
 common (x ∷ a) [] = 0
 common (x ∷ a) (y ∷ b) = if x == y then suc (common a b) else 0
 
--- a row: three lengths, the rest of the key, the value
+-- the length of a value, as its row spells it: rows whose handles are differences have none
+-- RocksDB: block_builder.cc, Add (use_value_delta_encoding)
+-- Pinned by: sound_blocks, blocks_that_are_built, nothing yet (of differences)
+abbrev pub value_length : RowForm → List ℕ → List ℕ
+value_length Entries value = varint (length value)
+value_length Names value = varint (length value)
+value_length (Index user_key false) value = varint (length value)
+value_length (Index user_key true) value = []
+
+-- each row of the form spells the length of its value
+-- For proofs alone.
+abbrev pub SpellsLengths : RowForm → Type 0
+SpellsLengths Entries = Unit {0}
+SpellsLengths Names = Unit {0}
+SpellsLengths (Index user_key false) = Unit {0}
+SpellsLengths (Index user_key true) = ⊥
+
+-- a row: the lengths that its form spells, the rest of the key, the value
+-- RocksDB: block_builder.cc, Add
 -- Pinned by: reading_finds_exactly_the_rows, sound_blocks, blocks_that_are_built
-abbrev pub row_spelling : Spelled → List ℕ
-row_spelling s =
-    varint s.shared ++ (varint (length s.row.key - s.shared) ++ (varint (length s.row.value) ++ (drop s.shared s.row.key ++ s.row.value)))
+abbrev pub row_spelling : RowForm → Spelled → List ℕ
+row_spelling form s =
+    varint s.shared ++ (varint (length s.row.key - s.shared) ++ (value_length form s.row.value ++ (drop s.shared s.row.key ++ s.row.value)))
 
 -- each row shares no more with the row before than their keys have in common; `before` is the key before
 -- Pinned by: reading_finds_exactly_the_rows, faulty_blocks, sound_blocks
@@ -50,18 +69,18 @@ SharesFronts before (s ∷ rest) = (s.shared ≤ common before s.row.key) × Sha
 
 -- where the rows begin that share nothing; `at` is where the first row begins
 -- Pinned by: faulty_blocks, sound_blocks, chosen_block_stands_for_its_rows
-abbrev pub fresh_starts : ℕ → List Spelled → List ℕ
-fresh_starts at [] = []
-fresh_starts at (s ∷ rest) = (if s.shared == 0 then at ∷ [] else []) ++ fresh_starts (at + length (row_spelling s)) rest
+abbrev pub fresh_starts : RowForm → ℕ → List Spelled → List ℕ
+fresh_starts form at [] = []
+fresh_starts form at (s ∷ rest) = (if s.shared == 0 then at ∷ [] else []) ++ fresh_starts form (at + length (row_spelling form s)) rest
 
 -- the restarts: the first is 0, they increase, and each is the start of a row that shares nothing; a block
 -- without rows has the one restart 0
 -- RocksDB: block_builder.cc; that readers refuse others is own
 -- Pinned by: first_fault_is_first, sound_blocks, faulty_blocks
-abbrev pub AreRestarts : List ℕ → List Spelled → Type 0
-AreRestarts restarts [] = restarts ≡ 0 ∷ []
-AreRestarts restarts (s ∷ rest) =
-    (slice_get restarts 0 ≡ Some 0) × IsStrictlyIncreasing restarts × All (Contains (fresh_starts 0 (s ∷ rest))) restarts
+abbrev pub AreRestarts : RowForm → List ℕ → List Spelled → Type 0
+AreRestarts form restarts [] = restarts ≡ 0 ∷ []
+AreRestarts form restarts (s ∷ rest) =
+    (slice_get restarts 0 ≡ Some 0) × IsStrictlyIncreasing restarts × All (Contains (fresh_starts form 0 (s ∷ rest))) restarts
 
 -- the order of the keys of a block: of stored keys, or bytewise
 -- RocksDB: db/dbformat.h
@@ -91,8 +110,8 @@ IsInternalKey key = (user : List ℕ) × (seq : ℕ) × (kind : Kind) × (seq < 
 abbrev pub IsHandle : List ℕ → Type 0
 IsHandle value = (h : Handle) × (h.offset < 2 ^ 64) × (h.size < 2 ^ 64) × (value ≡ handle_spelling h)
 
--- the row has the form: its key, and its value where the form says something of it. Rows of index blocks with
--- differences of handles are spelled in another way, and aren't said yet: no row has that form.
+-- the row has the form: its key, and its value where the form says something of it. What the values are of index
+-- blocks with differences of handles isn't said yet: no row has that form.
 -- Own.
 -- Pinned by: reading_finds_exactly_the_rows, faulty_blocks, handles, nothing yet (of an index with user keys)
 abbrev pub HasForm : RowForm → Row → Type 0
@@ -102,10 +121,10 @@ HasForm (Index true false) row = IsHandle row.value
 HasForm (Index false false) row = (8 ≤ length row.key) × IsHandle row.value
 HasForm (Index user_key true) row = ⊥
 
--- the row may stand in a block: a stored key has at most 65,544 bytes
+-- the row may stand in a block: a stored key isn't longer than one may be
 -- Pinned by: reading_finds_exactly_the_rows, long_keys
 abbrev pub IsRow : RowForm → Row → Type 0
-IsRow form row = (length row.key ≤ 65544) × HasForm form row
+IsRow form row = (length row.key ≤ stored_key_limit) × HasForm form row
 
 -- what follows the rows: each restart's place in four bytes, and then how many there are
 -- RocksDB: block_builder.cc, Finish
@@ -113,8 +132,8 @@ IsRow form row = (length row.key ≤ 65544) × HasForm form row
 abbrev pub restarts_spelling : List ℕ → List ℕ
 restarts_spelling restarts = flat_map (fixed 4) restarts ++ fixed 4 (length restarts)
 
--- the bytes stand for the rows: they are some spelling of these rows and some restarts, joined, in order, in at most
--- 2 ^ 29 bytes
+-- the bytes stand for the rows: they are some spelling of these rows and some restarts, joined, in order, in no more
+-- bytes than a block may have
 -- RocksDB: block_builder.cc; wiki "Rocksdb BlockBasedTable Format"
 -- Pinned by: reading_finds_exactly_the_rows, chosen_block_stands_for_its_rows, sound_blocks,
 -- a_block_has_one_list_of_rows.short (of the limit)
@@ -122,9 +141,9 @@ pub record Block (form : RowForm) (bytes : List ℕ) (rows : List Row) : Type 0 
   pub spelled : List Spelled
   pub restarts : List ℕ
   pub are_rows : map (λ (s : Spelled). s.row) spelled ≡ rows
-  pub spelling : bytes ≡ flat_map row_spelling spelled ++ restarts_spelling restarts
+  pub spelling : bytes ≡ flat_map (row_spelling form) spelled ++ restarts_spelling restarts
   pub fronts : SharesFronts [] spelled
-  pub places : AreRestarts restarts spelled
+  pub places : AreRestarts form restarts spelled
   pub forms : All (IsRow form) rows
   pub ordered : AreOrdered form rows
-  pub short : length bytes ≤ 2 ^ 29
+  pub short : length bytes ≤ block_limit

@@ -12,6 +12,7 @@ use Rattle.sst_num.specs.declared.block_handle.Handle.{Handle}
 use Rattle.sst_num.specs.declared.stops.Refused.{Refused}
 use Rattle.sst_num.specs.declared.stops.Refused.TheVariants.{Cause, Memory}
 use Rattle.sst_key.specs.InternalKey.{parts_of}
+use Rattle.sst_key.specs.Limits.{stored_key_limit}
 use Rattle.sst_block.specs.declared.row_form.RowForm.{RowForm}
 use Rattle.sst_block.specs.declared.row_form.RowForm.TheVariants.{Entries, Names, Index}
 use Rattle.sst_block.specs.declared.fault.BlockFault.{BlockFault}
@@ -42,7 +43,7 @@ lengths_at bytes =
 -- Pinned by: reading_finds_exactly_the_rows, faulty_blocks, long_keys
 abbrev pub are_within : List ℕ → ℕ → Lengths → Bool
 are_within before room l =
-    nat_le l.shared (length before) && (nat_le (l.used + l.rest + l.value) room && nat_le (l.shared + l.rest) 65544)
+    nat_le l.shared (length before) && (nat_le (l.used + l.rest + l.value) room && nat_le (l.shared + l.rest) stored_key_limit)
 
 -- the row of these lengths: the shared front of the key before and the bytes that follow, and then the value
 -- RocksDB: block.cc, ParseNextKey
@@ -228,15 +229,15 @@ restarts_fault fresh (suc n) bytes =
 
 -- the rows, if the restarts have no damage
 -- Own.
-abbrev pub with_restarts : ℕ → List ℕ → List Spelled → Result (List Spelled) BlockFault
-with_restarts count bytes spelled = unless spelled (restarts_fault (fresh_starts 0 spelled) count bytes)
+abbrev pub with_restarts : RowForm → ℕ → List ℕ → List Spelled → Result (List Spelled) BlockFault
+with_restarts form count bytes spelled = unless spelled (restarts_fault (fresh_starts form 0 spelled) count bytes)
 
 -- the rows before so many restarts, or the first damage
 -- Own.
 abbrev pub parts_read : RowForm → List ℕ → Option ℕ → Result (List Spelled) BlockFault
 parts_read form bytes None = Err BadFooter
 parts_read form bytes (Some count) =
-    then_read (rows_read form (take (rows_end bytes count) bytes)) (with_restarts count (drop (rows_end bytes count) bytes))
+    then_read (rows_read form (take (rows_end bytes count) bytes)) (with_restarts form count (drop (rows_end bytes count) bytes))
 
 -- the rows of a block, or its first damage: of the footer, the rows, the restarts
 -- Own.

@@ -1,9 +1,10 @@
 -- What a builder of a block holds between its calls: the rows that were added, spelled, and what the next row
 -- needs of them. RocksDB: BlockBuilder in table/block_based/block_builder.h.
 -- Pinned by: finish.exact
-use Rattle.std.specs.Prelude.{◌≡◌, ◌⊎◌, ℕ, ◌+◌, ◌*◌, ◌^◌, ◌<◌, ◌≤◌, true, false, List, [], ◌∷◌, ◌++◌, length, All}
+use Rattle.std.specs.Prelude.{◌≡◌, ◌⊎◌, ℕ, ◌+◌, ◌*◌, ◌<◌, ◌≤◌, true, false, List, [], ◌∷◌, ◌++◌, length, All}
 use Rattle.std.specs.List.{flat_map}
 use Rattle.sst_num.specs.Spelling.{fixed}
+use Rattle.sst_key.specs.Limits.{block_limit}
 use Rattle.sst_block.specs.declared.row_form.RowForm.{RowForm}
 use Rattle.sst_block.specs.declared.row_form.RowForm.TheVariants.{Entries, Names, Index}
 use Rattle.sst_block.specs.declared.builder.BlockBuilder.{BlockBuilder}
@@ -45,35 +46,41 @@ pub record Counts (interval n since : ℕ) : Type 0 where
   pub whole : n ≡ groups * interval + since
   pub within : since ≤ interval
 
--- the rows may stand in a block of the form, of less than 2 ^ 29 bytes
+-- the most rows that a restart begins
+-- Own.
+-- Pinned by: chosen_block_stands_for_its_rows
+abbrev pub interval_limit : ℕ
+interval_limit = 65536
+
+-- the rows may stand in a block of the form, which is shorter than a block may be
 -- Pinned by: finish.block
 pub record MayStand (form : RowForm) (interval : ℕ) (rows : List Row) : Type 0 where
   pub least : 1 ≤ interval
-  pub most : interval ≤ 65536
+  pub most : interval ≤ interval_limit
   pub forms : All (IsRow form) rows
   pub ordered : AreOrdered form rows
-  pub short : length (block_of interval rows) < 2 ^ 29
+  pub short : length (block_of form interval rows) < block_limit
 
 -- what a builder keeps of the rows: their bytes, the restarts in four bytes each, how many those are, the key
 -- of the last row, and how many rows are in its group
 -- For proofs alone.
-pub record Keeps (interval : ℕ) (rows : List Row) (bytes restarts last : List ℕ) (count since : ℕ) : Type 0 where
-  pub bytes_are : bytes ≡ flat_map row_spelling (spelled_of interval rows)
-  pub restarts_are : restarts ≡ flat_map (fixed 4) (restarts_of interval (spelled_of interval rows))
+pub record Keeps (form : RowForm) (interval : ℕ) (rows : List Row) (bytes restarts last : List ℕ) (count since : ℕ) : Type 0 where
+  pub bytes_are : bytes ≡ flat_map (row_spelling form) (spelled_of interval rows)
+  pub restarts_are : restarts ≡ flat_map (fixed 4) (restarts_of form interval (spelled_of interval rows))
   pub last_is : last ≡ last_key [] rows
-  pub count_is : count ≡ length (restarts_of interval (spelled_of interval rows))
+  pub count_is : count ≡ length (restarts_of form interval (spelled_of interval rows))
   pub counts : Counts interval (length rows) since
   pub begun : 0 < length rows → 0 < since
 
 -- the same when the next row may be put, whichever it is: where a group was full, its restart is there and no
 -- key is shared
 -- For proofs alone.
-pub record IsReady (interval : ℕ) (rows : List Row) (bytes restarts last : List ℕ) (count since : ℕ) : Type 0 where
-  pub bytes_are : bytes ≡ flat_map row_spelling (spelled_of interval rows)
+pub record IsReady (form : RowForm) (interval : ℕ) (rows : List Row) (bytes restarts last : List ℕ) (count since : ℕ) : Type 0 where
+  pub bytes_are : bytes ≡ flat_map (row_spelling form) (spelled_of interval rows)
   pub spelled_are : (row : Row) → spelled_of interval (rows ++ row ∷ [])
       ≡ spelled_of interval rows ++ record { shared = common last row.key; row = row } ∷ []
-  pub restarts_are : (row : Row) → restarts ≡ flat_map (fixed 4) (restarts_of interval (spelled_of interval (rows ++ row ∷ [])))
-  pub count_is : (row : Row) → count ≡ length (restarts_of interval (spelled_of interval (rows ++ row ∷ [])))
+  pub restarts_are : (row : Row) → restarts ≡ flat_map (fixed 4) (restarts_of form interval (spelled_of interval (rows ++ row ∷ [])))
+  pub count_is : (row : Row) → count ≡ length (restarts_of form interval (spelled_of interval (rows ++ row ∷ [])))
   pub counts : Counts interval (length rows) since
   pub room : since < interval
 
@@ -90,7 +97,7 @@ pub record Holds (b : BlockBuilder) (form : RowForm) (interval : ℕ) (rows : Li
   pub sound : b.failed ≡ false
   pub form_is : b.form ≡ form
   pub interval_is : b.interval ≡ interval
-  pub keeps : Keeps interval rows b.bytes.items b.restarts.items b.last.items b.count b.since
+  pub keeps : Keeps form interval rows b.bytes.items b.restarts.items b.last.items b.count b.since
   pub fits : MayStand form interval rows
 
 -- the builder holds the rows and has made room for the next
@@ -99,7 +106,7 @@ pub record AwaitsRow (b : BlockBuilder) (form : RowForm) (interval : ℕ) (rows 
   pub sound : b.failed ≡ false
   pub form_is : b.form ≡ form
   pub interval_is : b.interval ≡ interval
-  pub ready : IsReady interval rows b.bytes.items b.restarts.items b.last.items b.count b.since
+  pub ready : IsReady form interval rows b.bytes.items b.restarts.items b.last.items b.count b.since
 
 -- the row may come after those that the builder holds: it has the form, its key is after the last, and the
 -- block stays short
@@ -112,7 +119,7 @@ pub record Takes (b : BlockBuilder) (row : Row) : Type 0 where
   pub holds : Holds b form interval rows
   pub has_form : IsRow form row
   pub ordered : AreOrdered form (rows ++ row ∷ [])
-  pub short : length (block_of interval (rows ++ row ∷ [])) < 2 ^ 29
+  pub short : length (block_of form interval (rows ++ row ∷ [])) < block_limit
 
 -- a builder that has failed refuses each row, and any other takes those that may come next
 -- Own.

@@ -6,6 +6,7 @@
 use Rattle.std.specs.Prelude.{◌≡◌, ℕ, ◌+◌, ◌*◌, ◌^◌, ◌<◌, ◌≤◌, true, List, [], ◌∷◌, ◌++◌, length, map, All}
 use Rattle.std.specs.List.{flat_map}
 use Rattle.sst_num.specs.Spelling.{fixed}
+use Rattle.sst_key.specs.Limits.{stored_key_limit}
 use Rattle.sst_block.specs.declared.row_form.RowForm.{RowForm}
 use Rattle.sst_block.specs.declared.row_form.RowForm.TheVariants.{Entries, Names, Index}
 use Rattle.sst_block.specs.declared.fault.BlockFault.{BlockFault}
@@ -42,7 +43,7 @@ pub record AreSound (form : RowForm) (spelled : List Spelled) : Type 0 where
 -- Pinned by: first_fault_is_first, faulty_blocks
 pub record HasGoodLengths (form : RowForm) (before : List ℕ) (s : Spelled) : Type 0 where
   pub shares : s.shared ≤ common before s.row.key
-  pub short : length s.row.key ≤ 65544
+  pub short : length s.row.key ≤ stored_key_limit
   pub fits : length s.row.value < 2 ^ 32
   pub tagged : has_tag form ≡ true → 8 ≤ length s.row.key
 
@@ -50,13 +51,13 @@ pub record HasGoodLengths (form : RowForm) (before : List ℕ) (s : Spelled) : T
 -- Own.
 abbrev pub BeginsNoRow : RowForm → List ℕ → List ℕ → Type 0
 BeginsNoRow form before bytes =
-    (s : Spelled) (after : List ℕ) → bytes ≡ row_spelling s ++ after → HasGoodLengths form before s → ⊥
+    (s : Spelled) (after : List ℕ) → bytes ≡ row_spelling form s ++ after → HasGoodLengths form before s → ⊥
 
 -- the row begins the bytes, and its lengths are good
 -- Own.
 pub record BeginsRow (form : RowForm) (before bytes : List ℕ) (s : Spelled) : Type 0 where
   pub after : List ℕ
-  pub joined : bytes ≡ row_spelling s ++ after
+  pub joined : bytes ≡ row_spelling form s ++ after
   pub lengths : HasGoodLengths form before s
 
 -- the values of the form are block handles
@@ -90,11 +91,11 @@ pub record HasFaultyRow (form : RowForm) (bytes : List ℕ) (fault : BlockFault)
   pub rest : List ℕ
   pub end : List ℕ
   pub footer : HasFooter bytes count
-  pub joined : bytes ≡ flat_map row_spelling good ++ (rest ++ end)
+  pub joined : bytes ≡ flat_map (row_spelling form) good ++ (rest ++ end)
   pub ends : length end ≡ 4 * count + 4
   pub sound : AreSound form good
   pub some : 0 < length rest
-  pub faulty : IsRowFault form good (length (flat_map row_spelling good)) rest fault
+  pub faulty : IsRowFault form good (length (flat_map (row_spelling form) good)) rest fault
 
 -- the bytes hold sound rows alone, and then restarts of which number i is the first that breaks a rule: those before
 -- it keep them, and with what stands in its place they don't
@@ -106,13 +107,13 @@ pub record HasFaultyRestart (form : RowForm) (bytes : List ℕ) (i : ℕ) : Type
   pub restarts : List ℕ
   pub rest : List ℕ
   pub footer : HasFooter bytes count
-  pub joined : bytes ≡ flat_map row_spelling spelled ++ (flat_map (fixed 4) restarts ++ rest)
-  pub ends : length bytes ≡ length (flat_map row_spelling spelled) + 4 * count + 4
+  pub joined : bytes ≡ flat_map (row_spelling form) spelled ++ (flat_map (fixed 4) restarts ++ rest)
+  pub ends : length bytes ≡ length (flat_map (row_spelling form) spelled) + 4 * count + 4
   pub sound : AreSound form spelled
   pub number : length restarts ≡ i
   pub within : i < count
-  pub kept : 0 < i → AreRestarts restarts spelled
-  pub broken : (restart : ℕ) (after : List ℕ) → restart < 2 ^ 32 → rest ≡ fixed 4 restart ++ after → AreRestarts (restarts ++ restart ∷ []) spelled → ⊥
+  pub kept : 0 < i → AreRestarts form restarts spelled
+  pub broken : (restart : ℕ) (after : List ℕ) → restart < 2 ^ 32 → rest ≡ fixed 4 restart ++ after → AreRestarts form (restarts ++ restart ∷ []) spelled → ⊥
 
 -- the damage is the first that the bytes have: the footer comes first, then the rows, then the restarts
 -- Own.

@@ -33,17 +33,17 @@ abbrev pub met_by : ℕ → ℕ → Open → Open
 met_by shared at o = if shared == 0 then met at o else o
 
 -- the restarts that aren't met after some rows, the first of which begins at the place
-abbrev pub open_after : ℕ → Open → List Spelled → Open
-open_after at o [] = o
-open_after at o (s ∷ rows) = open_after (at + length (row_spelling s)) (met_by s.shared at o) rows
+abbrev pub open_after : RowForm → ℕ → Open → List Spelled → Open
+open_after form at o [] = o
+open_after form at o (s ∷ rows) = open_after form (at + length (row_spelling form s)) (met_by s.shared at o) rows
 
 -- the restarts that the code holds
 abbrev pub open_of : Restarts → Open
 open_of r = record { missing = r.missing; last = r.last; left = r.left.now }
 
 -- how many rows there are, and how many restarts aren't met at their end
-abbrev pub counted : Open → List Spelled → ℕ × ℕ
-counted o rows = (length rows, (open_after 0 o rows).missing)
+abbrev pub counted : RowForm → Open → List Spelled → ℕ × ℕ
+counted form o rows = (length rows, (open_after form 0 o rows).missing)
 
 abbrev pub rows_counted : RowForm → Open → List ℕ → Result (ℕ × ℕ) BlockFault
-rows_counted form o bytes = then_read (rows_read form bytes) (λ rows. Ok (counted o rows))
+rows_counted form o bytes = then_read (rows_read form bytes) (λ rows. Ok (counted form o rows))

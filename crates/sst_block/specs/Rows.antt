@@ -2,6 +2,7 @@
 -- For proofs alone.
 -- Pinned by: check_block.exact
 use Rattle.std.specs.Prelude.{◌≡◌, ℕ, ◌+◌, length, Bool, true, List, Option, None, Some, option_map, ◌<◌, ◌≤◌, if◌then◌else◌}
+use Rattle.sst_key.specs.Limits.{stored_key_limit}
 use Rattle.sst_block.specs.declared.row.Lengths.{Lengths}
 use Rattle.sst_block.specs.Block.{Spelled}
 use Rattle.sst_block.specs.BlockReading as reading
@@ -31,7 +32,7 @@ key_held first key = if first then None else Some key
 pub record FitsIn (before room : ℕ) (l : Lengths) : Type 0 where
   pub front : l.shared ≤ before
   pub within : row_length l ≤ room
-  pub key : l.shared + l.rest ≤ 65544
+  pub key : l.shared + l.rest ≤ stored_key_limit
   pub some : 0 < l.used
 
 -- the key has a tag where the form's keys have one

@@ -1,7 +1,7 @@
 //! The builder of a block.
 ghost use Rattle.std.specs.Prelude.{◌≡◌, ℕ, ◌<◌, ◌≤◌, ◌^◌, ◌++◌, false, List, [], ◌∷◌, length, take, IfOk, OnOk, OnErr};
 ghost use Rattle.std.specs.Result.{IsErr};
-ghost use Rattle.sst_block.specs.Block.{Row, Block, common, row_spelling};
+ghost use Rattle.sst_block.specs.Block.{Row, Block, SpellsLengths, common, row_spelling};
 ghost use Rattle.sst_block.specs.Builder.{HasNoFlags, HasFailed, Holds, AwaitsRow, Takes, CanAdd};
 ghost use Rattle.sst_block.specs.Chosen.{block_of};
 ghost use Rattle.sst_block.specs.declared.row_form.RowForm as forms;
@@ -105,7 +105,7 @@ impl BlockBuilder {
     pub fn size_now(&self) -> usize
         requires { (form : forms.RowForm) × (interval : ℕ) × (rows : List Row) × Holds self.now form interval rows }
         ensures { (form : forms.RowForm) (interval : ℕ) (rows : List Row)
-            → Holds self.now form interval rows → result ≡ length (block_of interval rows) }
+            → Holds self.now form interval rows → result ≡ length (block_of form interval rows) }
     {
         self.bytes.len() + self.restarts.len() + 4
     }
@@ -116,7 +116,7 @@ impl BlockBuilder {
     /// or did in an earlier call. RocksDB: `BlockBuilder::Finish` in table/block_based/block_builder.cc.
     pub fn finish(self) -> Result<Bytes, Memory>
         ensures exact { IfOk result (λ b. (form : forms.RowForm) (interval : ℕ) (rows : List Row)
-            → Holds self form interval rows → b ≡ block_of interval rows) }
+            → Holds self form interval rows → b ≡ block_of form interval rows) }
         ensures block { IfOk result (λ b. (form : forms.RowForm) (interval : ℕ) (rows : List Row)
             → Holds self form interval rows → Block form b rows) }
         ensures later { HasFailed self → IsErr result }
@@ -175,13 +175,13 @@ fn common_front(a: &[u8], b: &[u8]) -> usize
     end
 }
 
-/// Appends a row: three lengths, the rest of the key, and the value.
+/// Appends a row, of a form whose rows spell the length of their value: three lengths, the rest of the key, and the value.
 fn put_row(bytes: &mut Vec<u8>, shared: usize, key: &[u8], value: &[u8]) -> Result<(), Memory>
     requires front { shared ≤ length key.now }
     requires key { length key.now < 2 ^ 32 }
     requires value { length value.now < 2 ^ 32 }
-    ensures { OnOk result (bytes.new.items
-        ≡ bytes.old.items ++ row_spelling (record { shared = shared; row = record { key = key.now; value = value.now } })) }
+    ensures { OnOk result ((form : forms.RowForm) → SpellsLengths form → bytes.new.items
+        ≡ bytes.old.items ++ row_spelling form (record { shared = shared; row = record { key = key.now; value = value.now } })) }
 {
     let (_, rest) = key.split_at(shared);
     put_varint32(bytes, shared as u32)?;

@@ -107,6 +107,7 @@ fn check_rows(
     requires short { length rows.now ≤ 2 ^ 29 }
     requires whole { 4 * restarts.missing ≤ length restarts.left.now }
     requires none { key ≡ [] }
+    requires form { HasNoFlags form }
     ensures { result ≡ rows_counted form (open_of restarts.entry) rows.now }
 {
     let mut left = rows;
@@ -139,7 +140,8 @@ fn check_parts(
     requires some { 0 < count }
     requires whole { 4 * count ≤ length places.now }
     requires none { key ≡ [] }
-    ensures { Gives result (then_read (rows_read form rows.now) (with_restarts count places.now)) }
+    requires form { HasNoFlags form }
+    ensures { Gives result (then_read (rows_read form rows.now) (with_restarts form count places.now)) }
 {
     let (_, left) = places.split_at(NUMBER_LENGTH);
     let restarts = Restarts {

@@ -14,8 +14,8 @@ ghost use Rattle.sst_block.specs.declared.row_form.RowForm.{RowForm};
 /// RocksDB: `BlockBuilder::Add` and `Finish` in table/block_based/block_builder.cc.
 pub fn chosen_block_stands_for_its_rows()
     ensures { (form : RowForm) (interval : ℕ) (rows : List Row) → 0 < interval → All (IsRow form) rows
-        → AreOrdered form rows → length (block_of interval rows) ≤ 2 ^ 29
-        → Block form (block_of interval rows) rows }
+        → AreOrdered form rows → length (block_of form interval rows) ≤ 2 ^ 29
+        → Block form (block_of form interval rows) rows }
 {}
 
 /// Which rows of a chosen block are spelled whole.

@@ -18,7 +18,8 @@
 //! - A restart is the place in the block, in four bytes, the lowest first, where a row begins that shares
 //!   nothing. A reader can begin there. The first restart is 0, also where the block has no row, and the
 //!   restarts increase.
-//! - The three lengths are varints, in the shortest spelling. The number of restarts takes four bytes, the
+//! - The three lengths are varints, in the shortest spelling. Rows of an index whose handles are differences have no
+//!   value length; their values are handles, which tell their own. The number of restarts takes four bytes, the
 //!   lowest first.
 //!
 //! RocksDB: table/block_based/block_builder.cc (the layout at its top), and the wiki page "Rocksdb

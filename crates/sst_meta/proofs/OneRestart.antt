@@ -5,6 +5,7 @@ use Rattle.std.proofs.lemmas.Bool.{eq-eqb, ne_eqb}
 use Rattle.std.proofs.lemmas.List.{append-nil}
 use Rattle.std.proofs.Math.Nat.{zero-mod, mod-eq_of_lt}
 use Rattle.sst_num.specs.Spelling.{fixed}
+use Rattle.sst_block.specs.declared.row_form.RowForm.TheVariants.{Names}
 use Rattle.sst_block.specs.Block.{Row, Spelled, row_spelling, restarts_spelling}
 use Rattle.sst_block.specs.Chosen.{chosen, restarts_from, restarts_of, block_of}
 use Rattle.sst_block.proofs.Steps.{length-chosen}
@@ -21,10 +22,10 @@ chosen-sharing n i before (row ∷ rows) some few =
     rw (within n i some (omega arith), rest) refl
 
 -- and begins no restart
-none-from : (n i at : ℕ) (rows : List Spelled) → 0 < i → i + length rows ≤ n → restarts_from n i at rows ≡ []
+none-from : (n i at : ℕ) (rows : List Spelled) → 0 < i → i + length rows ≤ n → restarts_from Names n i at rows ≡ []
 none-from n i at [] some few = refl
 none-from n i at (s ∷ rows) some few =
-    let rest = none-from n (i + 1) (at + length (row_spelling s)) rows (omega arith) (omega arith) in
+    let rest = none-from n (i + 1) (at + length (row_spelling Names s)) rows (omega arith) (omega arith) in
     rw (within n i some (omega arith)) rest
 
 first : (n : ℕ) → (0 % n == 0) ≡ true
@@ -36,18 +37,18 @@ chosen-all n (row ∷ rows) few =
     let rest = chosen-sharing n 1 row.key rows (omega arith) (omega arith) in
     rw (first n, rest) refl
 
-restarts-all : (n : ℕ) (rows : List Spelled) → length rows ≤ n → restarts_of n rows ≡ 0 ∷ []
+restarts-all : (n : ℕ) (rows : List Spelled) → length rows ≤ n → restarts_of Names n rows ≡ 0 ∷ []
 restarts-all n [] few = refl
 restarts-all n (s ∷ rows) few =
-    let rest = none-from n 1 (0 + length (row_spelling s)) rows (omega arith) (omega arith) in
+    let rest = none-from n 1 (0 + length (row_spelling Names s)) rows (omega arith) (omega arith) in
     rw (first n, rest) refl
 
 one-spelling : restarts_spelling (0 ∷ []) ≡ fixed 4 0 ++ fixed 4 1
 one-spelling = ap (λ (l : List ℕ). l ++ fixed 4 1) (append-nil (fixed 4 0))
 
-pub one-restart : (n : ℕ) (rows : List Row) → length rows ≤ n → block_of n rows ≡ properties_block rows
+pub one-restart : (n : ℕ) (rows : List Row) → length rows ≤ n → block_of Names n rows ≡ properties_block rows
 unfolding block_of
 one-restart n rows few =
     let spelled = chosen-all n rows few in
     let places = restarts-all n (chosen n 0 [] rows) (omega (arith, length-chosen n 0 [] rows)) in
-    rw (places, spelled) (ap (λ (l : List ℕ). flat_map row_spelling (sharing [] rows) ++ l) one-spelling)
+    rw (places, spelled) (ap (λ (l : List ℕ). flat_map (row_spelling Names) (sharing [] rows) ++ l) one-spelling)

@@ -24,7 +24,7 @@ use Rattle.sst_meta.proofs.LoadsRead.{load-complete}
 metaindex-le : (at : ℕ) (pairs : List Row) → length (metaindex_block at pairs) ≤ 200
 metaindex-le at pairs =
     let handle : Handle = record { offset = at; size = length (props_for pairs) } in
-    omega (arith, block_of-le 1 (metaindex_for at pairs), length-handle handle)
+    omega (arith, block_of-le Names 1 (metaindex_for at pairs), length-handle handle)
 
 -- it stands for its row
 metaindex-is : (at : ℕ) (pairs : List Row) → Block Names (metaindex_block at pairs) (metaindex_for at pairs)

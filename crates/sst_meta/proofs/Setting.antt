@@ -16,5 +16,5 @@ can_set b pairs pair holds short_name after few room =
       short_name = short_name;
       after = after;
       few = few;
-      short = omega (arith, block_of-le 65536 (pairs ++ pair ∷ []), room);
+      short = omega (arith, block_of-le Names 65536 (pairs ++ pair ∷ []), room);
     })

@@ -36,7 +36,7 @@ pub record Takes (b : PropsBuilder) (pair : Row) : Type 0 where
   pub short_name : length pair.key ≤ stored_key_limit
   pub after : AreOrdered Names (pairs ++ pair ∷ [])
   pub few : length pairs < props_interval
-  pub short : length (block_of props_interval (pairs ++ pair ∷ [])) < block_limit
+  pub short : length (block_of Names props_interval (pairs ++ pair ∷ [])) < block_limit
 
 -- a builder that has failed refuses each pair, and any other takes those that may come next
 -- Own.

@@ -4,6 +4,7 @@
 use Rattle.std.specs.Prelude.{ℕ, List, [], ◌∷◌, ◌++◌}
 use Rattle.std.specs.List.{flat_map}
 use Rattle.sst_num.specs.Spelling.{fixed}
+use Rattle.sst_block.specs.declared.row_form.RowForm.TheVariants.{Names}
 use Rattle.sst_block.specs.Block.{Row, Spelled, common, row_spelling}
 
 -- each name leaves to the name before it all that they have in common at their fronts; `before` is the name before
@@ -14,4 +15,4 @@ sharing before (pair ∷ pairs) = record { shared = common before pair.key; row 
 -- the pairs, then the one restart, which is 0, and that there is one
 -- RocksDB: table/block_based/block_builder.cc, Finish
 abbrev pub properties_block : List Row → List ℕ
-properties_block pairs = flat_map row_spelling (sharing [] pairs) ++ (fixed 4 0 ++ fixed 4 1)
+properties_block pairs = flat_map (row_spelling Names) (sharing [] pairs) ++ (fixed 4 0 ++ fixed 4 1)

@@ -22,7 +22,7 @@ use Rattle.sst_meta.specs.declared.name.Name.TheVariants as name
 
 -- the properties block, which a builder of such blocks makes
 abbrev pub props_for : List Row → List ℕ
-props_for pairs = block_of props_interval pairs
+props_for pairs = block_of Names props_interval pairs
 
 -- the rows of the metaindex, which is one: it leads to the properties block, which stands at this place
 abbrev pub metaindex_for : ℕ → List Row → List Row
@@ -34,7 +34,7 @@ metaindex_for at pairs =
 
 -- the metaindex block, with a restart at each row
 abbrev pub metaindex_block : ℕ → List Row → List ℕ
-metaindex_block at pairs = block_of 1 (metaindex_for at pairs)
+metaindex_block at pairs = block_of Names 1 (metaindex_for at pairs)
 
 -- where the metaindex block stands: behind the stored properties block
 abbrev pub metaindex_place : ℕ → List Row → Handle

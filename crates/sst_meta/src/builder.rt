@@ -57,7 +57,7 @@ impl PropsBuilder {
     /// Fails where memory runs out now or did in an earlier call. RocksDB: `PropertyBlockBuilder::Finish` in
     /// table/meta_blocks.cc.
     pub fn finish(self) -> Result<Bytes, Memory>
-        ensures exact { IfOk result (λ b. (pairs : List Row) → Holds self pairs → b ≡ block_of 65536 pairs) }
+        ensures exact { IfOk result (λ b. (pairs : List Row) → Holds self pairs → b ≡ block_of Names 65536 pairs) }
         ensures block { IfOk result (λ b. (pairs : List Row) → Holds self pairs → Block Names b pairs) }
         ensures later { HasFailed self → IsErr result }
     {

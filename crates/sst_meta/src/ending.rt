@@ -80,7 +80,7 @@ fn block_of_rows(alloc: Global, interval: u32, rows: &[MetaRow<'_>]) -> Result<B
     requires least { 1 ≤ interval }
     requires most { interval ≤ 65536 }
     requires rows { AreMetaRows (rows_given rows.now) }
-    ensures { IfOk result (λ block. block ≡ block_of interval (rows_given rows.now)) }
+    ensures { IfOk result (λ block. block ≡ block_of Names interval (rows_given rows.now)) }
 {
     let mut block = BlockBuilder::new(alloc, RowForm::Names, interval, false)?;
     for row in rows {

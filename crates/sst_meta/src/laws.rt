@@ -21,5 +21,5 @@ pub fn a_name_has_one_value()
 ///
 /// RocksDB: `PropertyBlockBuilder` in table/meta_blocks.cc.
 pub fn properties_have_one_restart()
-    ensures { (pairs : List Row) → length pairs ≤ 65536 → block_of 65536 pairs ≡ properties_block pairs }
+    ensures { (pairs : List Row) → length pairs ≤ 65536 → block_of Names 65536 pairs ≡ properties_block pairs }
 {}

@@ -75,7 +75,7 @@
 //! specs/FooterReading.antt); [`put_footer`] appends the bytes of a footer (`footer_spelling`, specs/Footer.antt); and
 //! what is put is read back ([`a_footer_reads_back`]).
 //!
-//! [`PropsBuilder`] takes names in bytewise order, and makes the one block of them: `block_of 65536` of the pairs
+//! [`PropsBuilder`] takes names in bytewise order, and makes the one block of them: `block_of Names 65536` of the pairs
 //! (specs/Chosen.antt of `sst_block`), which is `properties_block` (specs/PropsBlock.antt). Where memory runs out a call
 //! answers so, and so does each later call of that builder.
 //!

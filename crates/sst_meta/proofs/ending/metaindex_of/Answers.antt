@@ -2,6 +2,7 @@ use Rattle.std.proofs.Common.{[], ◌∷◌, refl, ap, ◌∙◌, arith}
 use Rattle.std.proofs.lemmas.Result.{IfOk-weaker}
 use Rattle.sst_num.specs.Spelling.{handle_spelling}
 use Rattle.sst_num.specs.declared.block_handle.Handle.{Handle}
+use Rattle.sst_block.specs.declared.row_form.RowForm.TheVariants.{Names}
 use Rattle.sst_block.specs.Chosen.{block_of}
 use Rattle.sst_meta.specs.Names.{name_bytes}
 use Rattle.sst_meta.specs.declared.name.Name.TheVariants as name
@@ -15,5 +16,5 @@ block_of_rows-requires-clause-rows c = one_stands _ 18 refl (omega arith) (omega
 pub returns : goal.returns
 returns c = λ at pairs is.
     IfOk-weaker c.block_of_rows.result _ _
-    (λ block exact. exact ∙ ap (λ (h : Handle). block_of 1 (record { key = name_bytes name.Properties; value = handle_spelling h } ∷ [])) is)
+    (λ block exact. exact ∙ ap (λ (h : Handle). block_of Names 1 (record { key = name_bytes name.Properties; value = handle_spelling h } ∷ [])) is)
     c.block_of_rows.ensures

@@ -8,7 +8,7 @@ returns-then-self c = λ form interval rows h. record {
   sound = h.sound;
   form_is = h.form_is;
   interval_is = h.interval_is;
-  ready = IsReady-room interval rows _ _ _ _ _ h.keeps (omega (arith, h.interval_is));
+  ready = IsReady-room form interval rows _ _ _ _ _ h.keeps (omega (arith, h.interval_is));
 }
 
 pub overflow_cast-len : goal.overflow_cast-len
@@ -28,5 +28,5 @@ returns c = λ form interval rows h. record {
   sound = h.sound;
   form_is = h.form_is;
   interval_is = h.interval_is;
-  ready = IsReady-made interval rows c.args.self.now.bytes.items _ _ _ _ _ _ c.len.result h.fits.least h.keeps (omega (arith, h.interval_is)) (omega arith) c.in_ok-put_fixed32.ensures.ok c.truncate.ensures.items;
+  ready = IsReady-made form interval rows c.args.self.now.bytes.items _ _ _ _ _ _ c.len.result h.fits.least h.keeps (omega (arith, h.interval_is)) (omega arith) c.in_ok-put_fixed32.ensures.ok c.truncate.ensures.items;
 }

@@ -8,6 +8,6 @@ returns c = record {
   sound = refl;
   form_is = refl;
   interval_is = refl;
-  keeps = Keeps-new c.args.interval _ _ _ c.new.ensures.items (c.in_ok-put_fixed32.ensures.ok ∙ ap (λ (l : List ℕ). l ++ fixed 4 0) c.new-restarts.ensures.items) c.new-2.ensures.items;
+  keeps = Keeps-new c.args.form c.args.interval _ _ _ c.new.ensures.items (c.in_ok-put_fixed32.ensures.ok ∙ ap (λ (l : List ℕ). l ++ fixed 4 0) c.new-restarts.ensures.items) c.new-2.ensures.items;
   fits = MayStand-none c.args.form c.args.interval c.requires.least c.requires.most;
 }

@@ -11,5 +11,5 @@ overflow_add-result-2 c =
 
 pub returns : goal.returns
 returns c = λ form interval rows h.
-    let whole = length-block interval rows _ _ _ _ _ h.keeps in
+    let whole = length-block form interval rows _ _ _ _ _ h.keeps in
     omega (arith, whole)
