@@ -45,6 +45,7 @@ before r byte above h =
     ∙ octet_linear (bit_xor r byte) (above * 256)
     ∙ ap₂ bit_xor (sym (byte_is r byte)) (octet_shifts above)
 
+-- bytes leave what their number leaves
 pub folded : (r : ℕ) (bytes : List ℕ) → ((k : ℕ) → get_or bytes k 0 < 256) → fold crc_byte r bytes ≡ octets (length bytes) (bit_xor r (low_first bytes))
 unfolding octets
 folded r [] h = sym (xor_zero_r r)
@@ -69,11 +70,13 @@ eight_bytes r bytes fits e =
 
 -- ---- a number by its bytes
 
+-- the same from the bit k on, for n = m + 1
 split_at : (n m k x : ℕ) → n ≡ m + 1 → octets n (x / 2 ^ k) ≡ bit_xor (octets n (x / 2 ^ k % 256)) (octets m (x / 2 ^ (k + 8)))
 split_at n m k x e =
     let next : n ≡ suc m = omega (arith, e) in
     rw next (split m (x / 2 ^ k) ∙ ap (λ y. bit_xor (octets (suc m) (x / 2 ^ k % 256)) (octets m y)) (shr-shr x k 8))
 
+-- zeros leave nothing
 of_zero : (n : ℕ) → octets n 0 ≡ 0
 unfolding octet octets
 of_zero zero = refl

