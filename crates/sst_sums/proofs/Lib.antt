@@ -2,3 +2,4 @@ pub mod Linear
 pub mod Slices
 pub mod Turned
 pub mod Vectors
+pub mod Words

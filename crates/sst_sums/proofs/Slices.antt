@@ -1,4 +1,4 @@
--- Eight bytes of the checksum at once: the remainder of a number by its bytes.
+-- Bytes of the checksum at once: what they leave is what the number that they spell leaves, and that by its own bytes.
 use Rattle.std.proofs.Common.{◌≡◌, ℕ, zero, suc, ◌+◌, ◌*◌, ◌/◌, ◌%◌, ◌<◌, ◌^◌, ◌≤◌, List, [], ◌∷◌, length, drop, fold, get_or, bit_xor, refl, sym, ap, ap₂, ◌∙◌, arith, drop_of_length-le, drop-cons}
 use Rattle.std.specs.Int.Bits.{xor_assoc, xor_zero_r}
 use Rattle.std.proofs.lemmas.Nat.{shr-shr}
@@ -45,7 +45,8 @@ before r byte above h =
     ∙ octet_linear (bit_xor r byte) (above * 256)
     ∙ ap₂ bit_xor (sym (byte_is r byte)) (octet_shifts above)
 
-folded : (r : ℕ) (bytes : List ℕ) → ((k : ℕ) → get_or bytes k 0 < 256) → fold crc_byte r bytes ≡ octets (length bytes) (bit_xor r (low_first bytes))
+-- bytes leave what their number leaves
+pub folded : (r : ℕ) (bytes : List ℕ) → ((k : ℕ) → get_or bytes k 0 < 256) → fold crc_byte r bytes ≡ octets (length bytes) (bit_xor r (low_first bytes))
 unfolding octets
 folded r [] h = sym (xor_zero_r r)
 folded r (byte ∷ bytes) h =
@@ -69,24 +70,48 @@ eight_bytes r bytes fits e =
 
 -- ---- a number by its bytes
 
-split_at : (n k x : ℕ) → octets (suc n) (x / 2 ^ k) ≡ bit_xor (octets (suc n) (x / 2 ^ k % 256)) (octets n (x / 2 ^ (k + 8)))
-split_at n k x = split n (x / 2 ^ k) ∙ ap (λ y. bit_xor (octets (suc n) (x / 2 ^ k % 256)) (octets n y)) (shr-shr x k 8)
+-- the same from the bit k on, for n = m + 1
+split_at : (n m k x : ℕ) → n ≡ m + 1 → octets n (x / 2 ^ k) ≡ bit_xor (octets n (x / 2 ^ k % 256)) (octets m (x / 2 ^ (k + 8)))
+split_at n m k x e =
+    let next : n ≡ suc m = omega (arith, e) in
+    rw next (split m (x / 2 ^ k) ∙ ap (λ y. bit_xor (octets (suc m) (x / 2 ^ k % 256)) (octets m y)) (shr-shr x k 8))
+
+-- zeros leave nothing
+of_zero : (n : ℕ) → octets n 0 ≡ 0
+unfolding octet octets
+of_zero zero = refl
+of_zero (suc n) = of_zero n
 
 joined : (a b c d e f g h : ℕ) →
     bit_xor (bit_xor (bit_xor (bit_xor (bit_xor (bit_xor (bit_xor a b) c) d) e) f) g) h
     ≡ bit_xor a (bit_xor b (bit_xor c (bit_xor d (bit_xor e (bit_xor f (bit_xor g h))))))
 joined a b c d e f g h = simp xor_assoc
 
--- the step of eight bytes by all eight tables
-pub eight_tables : (x : ℕ) → x < 2 ^ 64 →
+-- a word of eight bytes by eight tables, with n bytes of zero behind it
+pub eight_tables : (n x : ℕ) → x < 2 ^ 64 →
     bit_xor (bit_xor (bit_xor (bit_xor (bit_xor (bit_xor (bit_xor
-    (octets 8 (x % 256)) (octets 7 (x / 2 ^ 8 % 256))) (octets 6 (x / 2 ^ 16 % 256))) (octets 5 (x / 2 ^ 24 % 256)))
-    (octets 4 (x / 2 ^ 32 % 256))) (octets 3 (x / 2 ^ 40 % 256))) (octets 2 (x / 2 ^ 48 % 256))) (octets 1 (x / 2 ^ 56 % 256))
-    ≡ octets 8 x
-eight_tables x h =
+    (octets (n + 7 + 1) (x % 256)) (octets (n + 6 + 1) (x / 2 ^ 8 % 256))) (octets (n + 5 + 1) (x / 2 ^ 16 % 256)))
+    (octets (n + 4 + 1) (x / 2 ^ 24 % 256))) (octets (n + 3 + 1) (x / 2 ^ 32 % 256))) (octets (n + 2 + 1) (x / 2 ^ 40 % 256)))
+    (octets (n + 1 + 1) (x / 2 ^ 48 % 256))) (octets (n + 1) (x / 2 ^ 56 % 256))
+    ≡ octets (n + 8) x
+eight_tables n x h =
+    let at_once : n + 8 ≡ n + 7 + 1 = omega arith in
+    let first : octets (n + 7 + 1) x ≡ bit_xor (octets (n + 7 + 1) (x % 256)) (octets (n + 6 + 1) (x / 2 ^ 8)) =
+    let next : n + 7 + 1 ≡ suc (n + 6 + 1) = omega arith in rw next (split (n + 6 + 1) x) in
     let end : x / 2 ^ 64 ≡ 0 = omega arith in
-    let last : octets 1 (x / 2 ^ 56) ≡ octets 1 (x / 2 ^ 56 % 256) =
-    split_at 0 56 x ∙ ap (bit_xor (octets 1 (x / 2 ^ 56 % 256))) (none (x / 2 ^ 64) ∙ end) ∙ xor_zero_r (octets 1 (x / 2 ^ 56 % 256)) in
-    joined (octets 8 (x % 256)) (octets 7 (x / 2 ^ 8 % 256)) (octets 6 (x / 2 ^ 16 % 256)) (octets 5 (x / 2 ^ 24 % 256))
-    (octets 4 (x / 2 ^ 32 % 256)) (octets 3 (x / 2 ^ 40 % 256)) (octets 2 (x / 2 ^ 48 % 256)) (octets 1 (x / 2 ^ 56 % 256))
-    ∙ cc (split 7 x, split_at 6 8 x, split_at 5 16 x, split_at 4 24 x, split_at 3 32 x, split_at 2 40 x, split_at 1 48 x, last)
+    let last : octets (n + 1) (x / 2 ^ 56) ≡ octets (n + 1) (x / 2 ^ 56 % 256) =
+    split_at (n + 1) n 56 x (omega arith) ∙ ap (bit_xor (octets (n + 1) (x / 2 ^ 56 % 256))) (ap (octets n) end ∙ of_zero n)
+    ∙ xor_zero_r (octets (n + 1) (x / 2 ^ 56 % 256)) in
+    joined (octets (n + 7 + 1) (x % 256)) (octets (n + 6 + 1) (x / 2 ^ 8 % 256)) (octets (n + 5 + 1) (x / 2 ^ 16 % 256))
+    (octets (n + 4 + 1) (x / 2 ^ 24 % 256)) (octets (n + 3 + 1) (x / 2 ^ 32 % 256)) (octets (n + 2 + 1) (x / 2 ^ 40 % 256))
+    (octets (n + 1 + 1) (x / 2 ^ 48 % 256)) (octets (n + 1) (x / 2 ^ 56 % 256))
+    ∙ rw at_once (cc (
+      first,
+      split_at (n + 6 + 1) (n + 5 + 1) 8 x (omega arith),
+      split_at (n + 5 + 1) (n + 4 + 1) 16 x (omega arith),
+      split_at (n + 4 + 1) (n + 3 + 1) 24 x (omega arith),
+      split_at (n + 3 + 1) (n + 2 + 1) 32 x (omega arith),
+      split_at (n + 2 + 1) (n + 1 + 1) 40 x (omega arith),
+      split_at (n + 1 + 1) (n + 1) 48 x (omega arith),
+      last,
+    ))

@@ -10,15 +10,15 @@ use Rattle.sst_sums.proofs.checksum.with_zeros.Goals as goal
 row : ℕ → List ℕ
 row k = map (octets (k + 1)) (range_with_len 0 256)
 
-tables_are : TABLES ≡ map row (range_with_len 0 8)
+tables_are : TABLES ≡ map row (range_with_len 0 32)
 unfolding octet octets row
 tables_are = refl
 
-entry : (k x : ℕ) → k < 8 → x < 256 → get_or (get_or TABLES k []) x 0 ≡ octets (k + 1) x
+entry : (k x : ℕ) → k < 32 → x < 256 → get_or (get_or TABLES k []) x 0 ≡ octets (k + 1) x
 unfolding row
 entry k x small byte =
     ap (λ tables. get_or (get_or tables k []) x 0) tables_are
-    ∙ ap (λ table. get_or table x 0) (get_or-map-range_with_len row 0 8 k k [] small (omega arith))
+    ∙ ap (λ table. get_or table x 0) (get_or-map-range_with_len row 0 32 k k [] small (omega arith))
     ∙ get_or-map-range_with_len (octets (k + 1)) 0 256 x x 0 byte (omega arith)
 
 pub returns : goal.returns
