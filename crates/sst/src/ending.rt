@@ -1,5 +1,5 @@
 //! What follows a run: the files that it wrote are kept or discarded, and a person is told what failed.
-ghost use Rattle.std.specs.Prelude.{◌≡◌, ◌⊎◌, ⊥};
+ghost use Rattle.std.specs.Prelude.{◌≡◌, ◌⊎◌};
 ghost use Rattle.sst_device.specs.Faults.{Rose};
 ghost use Rattle.sst_cli.specs.declared.status.Status.{Status};
 

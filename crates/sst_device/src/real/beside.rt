@@ -3,6 +3,7 @@
 //! Its path is that of the old file with `.sst-new` after it. So what a killed run left there is found and removed by the
 //! next one that writes the same file. Nothing but a regular file is ever removed there, and no link is followed.
 use crate::real::failure::Failure;
+use crate::real::places::sync_if_it_can;
 use std::alloc::AllocGlobal;
 use std::fs::{Metadata, OpenFile, OpenOptions, Permissions};
 use std::io;
@@ -141,10 +142,14 @@ fn is_same(one: &Metadata, other: &Metadata) -> bool {
     one.dev() == other.dev() && one.ino() == other.ino()
 }
 
-/// Whether the new file still is at its path. Another run that writes the same file has removed it, and has its own there.
+/// Whether the new file still is at its path. Another run that writes the same file has removed it, and has its own there
+/// or in its place.
 fn is_at_its_path<R: Files>(rt: &R, beside: &Beside<R::File>) -> io::Result<bool> {
-    let found = rt.symlink_metadata(beside.path.as_str())?;
-    Ok(is_same(&found, &beside.file.metadata()?))
+    match rt.symlink_metadata(beside.path.as_str()) {
+        Ok(found) => Ok(is_same(&found, &beside.file.metadata()?)),
+        Err(error) if error.kind() == ErrorKind::NotFound => Ok(false),
+        Err(error) => Err(error),
+    }
 }
 
 /// Puts the new file into the place of the old one, and syncs their folder.
@@ -153,7 +158,7 @@ pub(crate) fn put_in_place<R: Files>(rt: &R, beside: &Beside<R::File>) -> io::Re
         return Err(io::Error::other("another run writes this file"));
     }
     rt.rename(beside.path.as_str(), beside.target.as_str())?;
-    beside.folder.sync_all()
+    sync_if_it_can(&beside.folder)
 }
 
 /// Removes the new file, if it is at its path. Where that fails it stays there.

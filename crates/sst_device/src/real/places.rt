@@ -1,6 +1,6 @@
 //! Open files that are read and written at places.
 use crate::real::failure::Failure;
-use std::fs::{Metadata, OpenOptions};
+use std::fs::{Metadata, OpenFile, OpenOptions};
 use std::io;
 use std::io::{ErrorKind, Read, Seek, SeekFrom, Write};
 use std::os::unix::fs::FileTypeExt;
@@ -66,6 +66,15 @@ pub(crate) fn write_over<F: Write + Seek>(
     }
     file.seek(SeekFrom::Start(at))?;
     Ok(file.write_all(piece)?)
+}
+
+/// Waits until the disk has what was written, where the system has such a call: not for a pipe and many devices, and in some file
+/// systems not for a folder.
+pub(crate) fn sync_if_it_can<F: OpenFile>(file: &F) -> io::Result<()> {
+    match file.sync_all() {
+        Err(error) if error.kind() == ErrorKind::InvalidInput => Ok(()),
+        other => other,
+    }
 }
 
 /// Whether a range of `more` bytes from `at` on ends within `size` bytes.

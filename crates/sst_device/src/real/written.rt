@@ -3,7 +3,7 @@ ghost use Rattle.std.specs.Prelude.{◌<◌, length, IfSome};
 
 use crate::real::beside::{Beside, begin_beside, put_in_place, remove};
 use crate::real::failure::Failure;
-use crate::real::places::{append, open_at_places};
+use crate::real::places::{append, open_at_places, sync_if_it_can};
 use std::alloc::AllocGlobal;
 use std::fs::{OpenFile, OpenOptions};
 use std::io;
@@ -144,11 +144,11 @@ pub(crate) fn keep_all<R: Files + AllocGlobal>(
     Ok(())
 }
 
-/// Waits until the disk has the file's bytes. A device or a pipe has no such call.
+/// Waits until the disk has the file's bytes.
 fn sync<R: Files>(written: &Written<R::File>) -> io::Result<()> {
     match &written.way {
         Way::Anew(beside) => beside.file.sync_all(),
-        Way::Straight(_) => Ok(()),
+        Way::Straight(file) => sync_if_it_can(file),
         Way::InPlace(file) => file.sync_all(),
     }
 }
