@@ -66,7 +66,10 @@
 //!   is read is exactly the first thing that is wrong ([`a_frame_fault_is_the_first`]).
 //!
 //! Not promised: what a real file holds, that nobody else writes it, and that what was written reaches the disk.
-//! The real adapters are the trusted edge: that each asks the system for the right thing is only tested.
+//! The real adapters are the trusted edge: that each asks the system for the right thing is only tested (tests/real).
+//! [`DiskFolder`] writes a file that is begun beside the old one, and its `keep` asks the system to sync the new file, to
+//! put it into the old one's place, and to sync the folder. Of that its contract has the faults alone. Each real object
+//! keeps the error of the system of its first call that failed, for a message.
 //!
 //! A block without a trailer, as plain and cuckoo tables keep their meta blocks, is defined (`Bare`,
 //! specs/Framed.antt), and no call reads one yet.
@@ -93,5 +96,5 @@ pub use laws::{
     frame_is_framed, one_file_changes,
 };
 pub use memory::{MemFolder, MemIntake, MemSink, Planned};
-pub use real::{DiskFolder, StdIntake, StdSink};
+pub use real::{DiskFolder, Failure, StdIntake, StdSink};
 pub use stream::{Intake, Sink, put_all};

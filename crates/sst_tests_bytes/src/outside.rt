@@ -78,6 +78,50 @@ fn a_real_folder(rt: HostRuntime) {
     assert_steps(&rt, &mut folder, &ON_DISK);
 }
 
+// What is begun takes its place when it is kept, and else the place stays as it was.
+#[test]
+fn a_real_folder_keeps_and_discards(rt: HostRuntime) {
+    let mut folder = DiskFolder::new(&rt);
+    assert_steps(
+        &rt,
+        &mut folder,
+        &[
+            Step::Begin("made", Ok(())),
+            Step::Add("made", b"abcd", Ok(())),
+        ],
+    );
+    assert_steps(
+        &rt,
+        &mut DiskFolder::new(&rt),
+        &[Step::Size("made", Err(DevStop::Failed))],
+    );
+    assert_eq!(rt; folder.keep(), Ok(()));
+    assert_steps(&rt, &mut DiskFolder::new(&rt), &[Step::Size("made", Ok(4))]);
+    assert_steps(
+        &rt,
+        &mut folder,
+        &[Step::Begin("made", Ok(())), Step::Begin("other", Ok(()))],
+    );
+    folder.discard();
+    assert_steps(
+        &rt,
+        &mut folder,
+        &[
+            Step::Size("made", Ok(4)),
+            Step::Patch("made", 1, b"BC", Ok(())),
+        ],
+    );
+    assert_eq!(rt; folder.keep(), Ok(()));
+    assert_steps(&rt, &mut folder, &[Step::Read("made", 0, Ok(*b"aBC"))]);
+    assert_eq!(rt; folder.failure().is_none(), true);
+    assert_steps(
+        &rt,
+        &mut folder,
+        &[Step::Size("other", Err(DevStop::Failed))],
+    );
+    assert_eq!(rt; folder.failure().is_some(), true);
+}
+
 #[test]
 fn the_real_streams(rt: HostRuntime) {
     let mut intake = StdIntake::new(&rt);

@@ -1,31 +1,43 @@
 //! A folder of real files.
 ghost use Rattle.std.specs.Prelude.{◌⊎◌, ◌≡◌, ◌≤◌, None};
 ghost use Rattle.sst_device.specs.Faults.{Rose};
+ghost use Rattle.sst_device.specs.Outside.{CountsFaults};
 
 use crate::counts::{count_on, raise};
 use crate::folder::{DevStop, Folder};
-use std::fs::OpenOptions;
+use crate::real::failure::Failure;
+use crate::real::places::{open_at_places, read_range, size_of, write_over};
+use crate::real::written::{Written, add, begin, keep_all, place_of, remove_all, writing};
+use std::alloc::{AllocGlobal, Global};
 use std::io;
-use std::io::{ErrorKind, Read, Seek, SeekFrom, Write};
+use std::io::ErrorKind;
 use std::rt::Files;
 
-/// An open file.
+/// The file that was read last.
 #[derive(Drop)]
 struct Opened<F: Drop> {
     name: String,
-    is_writable: bool,
     file: F,
 }
 
 /// The real files, named by their paths. It tells nothing of what they hold.
 ///
-/// A name may be any path. The file of the last call stays open, so that calls of one name in a row open it
-/// once; another name or an error closes it. The count of faults rises at each `Failed`. It stands still at the
-/// last value of a `u64`, and so does the count of the bytes drawn.
+/// A name may be any path. A regular file that is begun, or one that is absent, keeps what it holds: a new file is made
+/// beside it, and every later call of that name goes to the new one. [`DiskFolder::keep`] puts it into its place, and
+/// [`DiskFolder::discard`] removes it; one of them ends a run, and without either the new file stays beside the old one.
+/// Any number of names may be begun. Names are compared as text: by another spelling the old file is read.
+///
+/// What is begun and is no regular file, a device or a pipe, is written straight. A file that is patched or added to and
+/// wasn't begun is written in place. What has no places, as a directory or a pipe, isn't read.
+///
+/// Files that are written stay open until `keep` or `discard`, and so does the one that was read last. The count of faults
+/// rises at each `Failed`. It stands still at the last value of a `u64`, and so does the count of the bytes drawn.
 #[derive(Drop)]
 pub struct DiskFolder<R: Files + AllocGlobal + Drop> {
     rt: R,
+    written: Vec<Written<R::File>>,
     opened: Option<Opened<R::File>>,
+    failure: Option<Failure>,
     faults: u64,
     drawn_bytes: u64,
 }
@@ -36,150 +48,110 @@ impl<R: Files + AllocGlobal + Drop> DiskFolder<R> {
         ensures faults { ⟦<DiskFolder<R> as Folder>⟧.faults result ≡ 0 }
         ensures drawn { ⟦<DiskFolder<R> as Folder>⟧.drawn result ≡ 0 }
     {
+        let written = Vec::new(rt.alloc());
         DiskFolder {
             rt,
+            written,
             opened: None,
+            failure: None,
             faults: 0,
             drawn_bytes: 0,
         }
     }
-}
 
-/// Takes the file that was kept open, if it has this name and may be used so; else it is closed.
-fn kept<F: Drop>(slot: &mut Option<Opened<F>>, name: &str, is_writable: bool) -> Option<Opened<F>> {
-    let opened = slot.take()?;
-    let serves = opened.is_writable || !is_writable;
-    if serves && opened.name.as_str() == name {
-        Some(opened)
-    } else {
-        None
+    /// Syncs each file that was written, puts each that was begun into its place, and syncs its folder. An Ok says that the
+    /// system answered so; that the disk has the bytes is outside of every proof.
+    ///
+    /// After an error `discard` removes what isn't in its place.
+    pub fn keep(&mut self) -> Result<(), DevStop>
+        ensures folder { CountsFaults (result ≡ Err DevStop.Failed) (⟦<DiskFolder<R> as Folder>⟧.faults self.old) (⟦<DiskFolder<R> as Folder>⟧.faults self.new) }
+        ensures same_drawn { ⟦<DiskFolder<R> as Folder>⟧.drawn self.new ≡ ⟦<DiskFolder<R> as Folder>⟧.drawn self.old }
+    {
+        self.opened = None;
+        let answer = keep_all(&self.rt, self.written.as_slice());
+        settle(&mut self.faults, &mut self.failure, answer)?;
+        self.written.clear();
+        Ok(())
+    }
+
+    /// Removes each file that was begun and isn't in its place: its name leads to what it led to. Where the system doesn't
+    /// let it, that file stays beside, and the next one that is begun by the same name removes it.
+    pub fn discard(&mut self)
+        ensures same_faults { ⟦<DiskFolder<R> as Folder>⟧.faults self.new ≡ ⟦<DiskFolder<R> as Folder>⟧.faults self.old }
+        ensures same_drawn { ⟦<DiskFolder<R> as Folder>⟧.drawn self.new ≡ ⟦<DiskFolder<R> as Folder>⟧.drawn self.old }
+    {
+        self.opened = None;
+        remove_all(&self.rt, self.written.as_slice());
+        self.written.clear();
+    }
+
+    /// The first failure that was counted, for a message.
+    pub fn failure(&self) -> Option<&Failure> {
+        self.failure.as_ref()
     }
 }
 
-/// Opens the named file: to read, or to read and to write.
-fn open_again<R: Files + AllocGlobal>(
+/// The named file, to read: the one that is written, or else the one that stands there.
+fn reading<'a, R: Files + AllocGlobal>(
     rt: &R,
-    slot: &mut Option<Opened<R::File>>,
+    written: &'a mut Vec<Written<R::File>>,
+    opened: &'a mut Option<Opened<R::File>>,
     name: &str,
-    is_writable: bool,
-) -> io::Result<Opened<R::File>> {
-    match kept(slot, name, is_writable) {
-        Some(opened) => Ok(opened),
-        None => {
-            let mut options = OpenOptions::new();
-            let _ = options.read(true).write(is_writable);
-            open_with(rt, &options, name, is_writable)
+) -> Result<&'a mut R::File, Failure> {
+    if let Some(at) = place_of(written, name) {
+        if let Some(found) = written.get_mut(at) {
+            return Ok(found.file());
         }
     }
+    if !is_open(opened, name) {
+        let copy = String::from_str(rt.alloc(), name)?;
+        let file = open_at_places(rt, name, false)?;
+        *opened = Some(Opened { name: copy, file });
+    }
+    match opened {
+        Some(found) => Ok(&mut found.file),
+        None => Err(Failure::from(io::Error::from(ErrorKind::NotFound))),
+    }
 }
 
-/// Opens the named file by these options.
-fn open_with<R: Files + AllocGlobal>(
-    rt: &R,
-    options: &OpenOptions,
-    name: &str,
-    is_writable: bool,
-) -> io::Result<Opened<R::File>> {
-    let copy = String::from_str(rt.alloc(), name)?;
-    let file = options.open(rt, name)?;
-    Ok(Opened {
-        name: copy,
-        is_writable,
-        file,
-    })
-}
-
-fn size_of<R: Files + AllocGlobal>(
-    rt: &R,
-    slot: &mut Option<Opened<R::File>>,
-    name: &str,
-) -> io::Result<u64> {
-    let mut opened = open_again(rt, slot, name, false)?;
-    let size = opened.file.seek(SeekFrom::End(0))?;
-    *slot = Some(opened);
-    Ok(size)
-}
-
-fn read_range<R: Files + AllocGlobal>(
-    rt: &R,
-    slot: &mut Option<Opened<R::File>>,
-    name: &str,
-    at: u64,
-    buf: &mut [u8],
-) -> io::Result<()> {
-    let mut opened = open_again(rt, slot, name, false)?;
-    opened.file.seek(SeekFrom::Start(at))?;
-    opened.file.read_exact(buf)?;
-    *slot = Some(opened);
-    Ok(())
-}
-
-fn create<R: Files + AllocGlobal>(
-    rt: &R,
-    slot: &mut Option<Opened<R::File>>,
-    name: &str,
-) -> io::Result<()> {
-    *slot = None;
-    let mut options = OpenOptions::new();
-    let _ = options.read(true).write(true).create(true).truncate(true);
-    *slot = Some(open_with(rt, &options, name, true)?);
-    Ok(())
-}
-
-fn append<R: Files + AllocGlobal>(
-    rt: &R,
-    slot: &mut Option<Opened<R::File>>,
-    name: &str,
-    piece: &[u8],
-) -> io::Result<()> {
-    let mut opened = open_again(rt, slot, name, true)?;
-    opened.file.seek(SeekFrom::End(0))?;
-    opened.file.write_all(piece)?;
-    *slot = Some(opened);
-    Ok(())
-}
-
-/// Whether a range of `more` bytes from `at` on ends within `size` bytes.
-fn is_within(size: u64, at: u64, more: usize) -> bool {
-    match at.checked_add(more as u64) {
-        Some(end) => end <= size,
+/// Whether the file that was read last has this name.
+fn is_open<F: Drop>(opened: &Option<Opened<F>>, name: &str) -> bool {
+    match opened {
+        Some(found) => found.name.as_str() == name,
         None => false,
     }
 }
 
-fn write_over<R: Files + AllocGlobal>(
-    rt: &R,
-    slot: &mut Option<Opened<R::File>>,
-    name: &str,
-    at: u64,
-    piece: &[u8],
-) -> io::Result<()> {
-    let mut opened = open_again(rt, slot, name, true)?;
-    let size = opened.file.seek(SeekFrom::End(0))?;
-    if !is_within(size, at, piece.len()) {
-        return Err(io::Error::from(ErrorKind::UnexpectedEof));
-    }
-    opened.file.seek(SeekFrom::Start(at))?;
-    opened.file.write_all(piece)?;
-    *slot = Some(opened);
-    Ok(())
-}
-
-/// Counts an error as a fault, unless it is want of memory.
-fn settle<T>(faults: &mut u64, answer: io::Result<T>) -> Result<T, DevStop>
+/// Counts an error as a fault, unless it is want of memory. The first is kept for a message.
+fn settle<T>(
+    faults: &mut u64,
+    first: &mut Option<Failure>,
+    answer: Result<T, Failure>,
+) -> Result<T, DevStop>
     ensures failed { result ≡ Err DevStop.Failed → Rose faults.old faults.new }
     ensures counts { faults.old ≤ faults.new }
     ensures hides_none { (result ≡ Err DevStop.Failed) ⊎ (faults.new ≡ faults.old) }
 {
     match answer {
         Ok(value) => Ok(value),
-        Err(error) => {
-            if error.kind() == ErrorKind::OutOfMemory {
+        Err(failure) => {
+            if failure.error.kind() == ErrorKind::OutOfMemory {
                 return Err(DevStop::Memory);
             }
             *faults = raise(*faults);
+            if first.is_none() {
+                *first = Some(failure);
+            }
             Err(DevStop::Failed)
         }
+    }
+}
+
+/// The answer of a call, whose failure is at the named file if it isn't at another.
+fn named<T>(alloc: Global, name: &str, answer: Result<T, Failure>) -> Result<T, Failure> {
+    match answer {
+        Ok(value) => Ok(value),
+        Err(failure) => Err(failure.or_at(alloc, name)),
     }
 }
 
@@ -191,30 +163,62 @@ impl<R: Files + AllocGlobal + Drop> Folder for DiskFolder<R> {
     ghost drawn = { λ folder. folder.drawn_bytes };
 
     fn size(&mut self, name: &str) -> Result<u64, DevStop> {
-        let answer = size_of(&self.rt, &mut self.opened, name);
-        settle(&mut self.faults, answer)
+        let answer = match reading(&self.rt, &mut self.written, &mut self.opened, name) {
+            Ok(file) => size_of(file),
+            Err(failure) => Err(failure),
+        };
+        settle(
+            &mut self.faults,
+            &mut self.failure,
+            named(self.rt.alloc(), name, answer),
+        )
     }
 
     fn read_at(&mut self, name: &str, at: u64, buf: &mut [u8]) -> Result<(), DevStop> {
         let drawn = count_on(self.drawn_bytes, buf.len());
-        let answer = read_range(&self.rt, &mut self.opened, name, at, buf);
-        settle(&mut self.faults, answer)?;
+        let answer = match reading(&self.rt, &mut self.written, &mut self.opened, name) {
+            Ok(file) => read_range(file, at, buf),
+            Err(failure) => Err(failure),
+        };
+        settle(
+            &mut self.faults,
+            &mut self.failure,
+            named(self.rt.alloc(), name, answer),
+        )?;
         self.drawn_bytes = drawn;
         Ok(())
     }
 
     fn begin(&mut self, name: &str) -> Result<(), DevStop> {
-        let answer = create(&self.rt, &mut self.opened, name);
-        settle(&mut self.faults, answer)
+        let answer = begin(&self.rt, &mut self.written, name);
+        settle(
+            &mut self.faults,
+            &mut self.failure,
+            named(self.rt.alloc(), name, answer),
+        )
     }
 
     fn add(&mut self, name: &str, piece: &[u8]) -> Result<(), DevStop> {
-        let answer = append(&self.rt, &mut self.opened, name, piece);
-        settle(&mut self.faults, answer)
+        let answer = match writing(&self.rt, &mut self.written, name) {
+            Ok(written) => add::<R>(written, piece),
+            Err(failure) => Err(failure),
+        };
+        settle(
+            &mut self.faults,
+            &mut self.failure,
+            named(self.rt.alloc(), name, answer),
+        )
     }
 
     fn patch(&mut self, name: &str, at: u64, piece: &[u8]) -> Result<(), DevStop> {
-        let answer = write_over(&self.rt, &mut self.opened, name, at, piece);
-        settle(&mut self.faults, answer)
+        let answer = match writing(&self.rt, &mut self.written, name) {
+            Ok(written) => write_over(written.file(), at, piece),
+            Err(failure) => Err(failure),
+        };
+        settle(
+            &mut self.faults,
+            &mut self.failure,
+            named(self.rt.alloc(), name, answer),
+        )
     }
 }

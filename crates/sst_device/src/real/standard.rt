@@ -11,6 +11,7 @@ use std::io::{ErrorKind, Read};
 #[derive(Drop)]
 pub struct StdIntake<R: Input> {
     reader: R::Reader,
+    failure: Option<io::Error>,
     faults: u64,
 }
 
@@ -21,8 +22,21 @@ impl<R: Input> StdIntake<R> {
     {
         StdIntake {
             reader: rt.reader(),
+            failure: None,
             faults: 0,
         }
+    }
+
+    /// The system's error at the first call that failed, for a message.
+    pub fn failure(&self) -> Option<io::Error> {
+        self.failure
+    }
+}
+
+/// Keeps the first error.
+fn note(first: &mut Option<io::Error>, error: io::Error) {
+    if first.is_none() {
+        *first = Some(error);
     }
 }
 
@@ -68,8 +82,9 @@ impl<R: Input> Intake for StdIntake<R> {
     fn take(&mut self, buf: &mut [u8]) -> Result<usize, Failed> {
         match read_some(&mut self.reader, buf) {
             Ok(count) => Ok(count),
-            Err(_) => {
+            Err(error) => {
                 self.faults = raise(self.faults);
+                note(&mut self.failure, error);
                 Err(Failed)
             }
         }
@@ -80,6 +95,7 @@ impl<R: Input> Intake for StdIntake<R> {
 #[derive(Drop)]
 pub struct StdSink<R: Print> {
     rt: R,
+    failure: Option<io::Error>,
     faults: u64,
 }
 
@@ -88,7 +104,16 @@ impl<R: Print> StdSink<R> {
     pub fn new(rt: R) -> StdSink<R>
         ensures { ⟦<StdSink<R> as Sink>⟧.faults result ≡ 0 }
     {
-        StdSink { rt, faults: 0 }
+        StdSink {
+            rt,
+            failure: None,
+            faults: 0,
+        }
+    }
+
+    /// The system's error at the first call that failed, for a message.
+    pub fn failure(&self) -> Option<io::Error> {
+        self.failure
     }
 }
 
@@ -102,12 +127,14 @@ impl<R: Print> Sink for StdSink<R> {
             Ok(0) => {
                 if !piece.is_empty() {
                     self.faults = raise(self.faults);
+                    note(&mut self.failure, io::Error::from(ErrorKind::WriteZero));
                 }
                 Ok(0)
             }
             Ok(count) => Ok(count),
-            Err(_) => {
+            Err(error) => {
                 self.faults = raise(self.faults);
+                note(&mut self.failure, error);
                 Err(DevStop::Failed)
             }
         }
