@@ -1,9 +1,10 @@
 -- What stands at the front of a list and is in range is what is read there, and nothing else is.
-use Rattle.std.proofs.Common.{◌≡◌, ◌↔◌, ℕ, ◌^◌, ◌<◌, List, ◌++◌, drop, Some, sym, ap, ◌∙◌}
-use Rattle.sst_num.specs.Spelling.{fixed}
-use Rattle.sst_num.specs.NumberReading.{varint_at, varint32_at, handle_at, fixed_at, StartsWithVarint, StartsWithHandle}
+use Rattle.std.proofs.Common.{◌≡◌, ◌↔◌, ℕ, ◌^◌, ◌<◌, ℤ, List, ◌++◌, drop, Some, sym, ap, ◌∙◌}
+use Rattle.sst_num.specs.Spelling.{fixed, IsSigned64}
+use Rattle.sst_num.specs.NumberReading.{varint_at, varint32_at, signed_at, handle_at, fixed_at, StartsWithVarint, StartsWithSigned, StartsWithHandle}
 use Rattle.sst_num.specs.declared.block_handle.Handle.{Handle}
 use Rattle.sst_num.proofs.NumberReading.{varint_at-varint, varint_at-found, varint32_at-varint, varint32_at-found, handle_at-handle, handle_at-found}
+use Rattle.sst_num.proofs.Signed.{signed_at-signed, signed_at-found}
 use Rattle.sst_num.proofs.FixedAt.{fixed_at-fixed, fixed_at-found, fixed_at-joined}
 
 varint_at-there : (bytes : List ℕ) (v used : ℕ) → v < 2 ^ 64 → StartsWithVarint bytes v used → varint_at bytes ≡ Some (v, used)
@@ -13,6 +14,10 @@ varint_at-there bytes v used fits stands =
 varint32_at-there : (bytes : List ℕ) (v used : ℕ) → v < 2 ^ 32 → StartsWithVarint bytes v used → varint32_at bytes ≡ Some (v, used)
 varint32_at-there bytes v used fits stands =
     ap varint32_at stands.1 ∙ varint32_at-varint v stands.0 fits ∙ ap (λ (k : ℕ). Some (v, k)) (sym stands.2)
+
+signed_at-there : (bytes : List ℕ) (v : ℤ) (used : ℕ) → IsSigned64 v → StartsWithSigned bytes v used → signed_at bytes ≡ Some (v, used)
+signed_at-there bytes v used fits stands =
+    ap signed_at stands.1 ∙ signed_at-signed v stands.0 fits ∙ ap (λ (k : ℕ). Some (v, k)) (sym stands.2)
 
 handle_at-there : (bytes : List ℕ) (h : Handle) (used : ℕ) → h.offset < 2 ^ 64 → h.size < 2 ^ 64 → StartsWithHandle bytes h used
     → handle_at bytes ≡ Some (h, used)
@@ -29,6 +34,12 @@ pub varint32_at-stands : (bytes : List ℕ) (v used : ℕ) → (varint32_at byte
 varint32_at-stands bytes v used = (
   λ read. (let found = varint32_at-found v used bytes read in (found.1, found.0)),
   λ both. varint32_at-there bytes v used both.0 both.1,
+)
+
+pub signed_at-stands : (bytes : List ℕ) (v : ℤ) (used : ℕ) → (signed_at bytes ≡ Some (v, used)) ↔ (IsSigned64 v × StartsWithSigned bytes v used)
+signed_at-stands bytes v used = (
+  λ read. (let found = signed_at-found v used bytes read in (found.1, found.0)),
+  λ both. signed_at-there bytes v used both.0 both.1,
 )
 
 pub handle_at-stands : (bytes : List ℕ) (h : Handle) (used : ℕ)

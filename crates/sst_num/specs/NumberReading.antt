@@ -1,10 +1,10 @@
 -- What the front of a list of bytes reads as: a number, or a block handle, and how many bytes it takes.
--- RocksDB: util/coding.h (GetVarint32Ptr, GetVarint64, DecodeFixed64, and their kin), table/format.h
+-- RocksDB: util/coding.h (GetVarint32Ptr, GetVarint64, GetVarsignedint64, DecodeFixed64, and their kin), table/format.h
 -- (BlockHandle::DecodeFrom). RocksDB also takes a varint that is longer than it need be, and one of ten bytes (five
 -- where 32 bits are read) whose number is too large: it drops the high bits. Here both are refused.
-use Rattle.std.specs.Prelude.{◌≡◌, ℕ, zero, suc, ◌+◌, ◌-◌, ◌*◌, ◌^◌, List, [], ◌∷◌, ◌++◌, length, drop, Bool, ◌&&◌, nat_lt, if◌then◌else◌, Option, Some, None, option_and_then, option_map}
+use Rattle.std.specs.Prelude.{◌≡◌, ℕ, zero, suc, ◌+◌, ◌-◌, ◌*◌, ◌/◌, ◌%◌, ◌^◌, ℤ, pos, negsuc, List, [], ◌∷◌, ◌++◌, length, drop, Bool, ◌&&◌, nat_lt, ◌==◌, if◌then◌else◌, Option, Some, None, option_and_then, option_map}
 use Rattle.sst_num.specs.declared.block_handle.Handle.{Handle}
-use Rattle.sst_num.specs.Spelling.{varint, handle_spelling}
+use Rattle.sst_num.specs.Spelling.{varint, signed_varint, handle_spelling}
 
 -- a byte from 128 on may stand before the groups of a number: the number isn't 0, which would be a needless
 -- group, and both together are below 2 ^ 64
@@ -42,6 +42,23 @@ in_32_bits read = if nat_lt read.0 (2 ^ 32) then Some read else None
 unfoldable pub varint32_at : List ℕ → Option (ℕ × ℕ)
 varint32_at bytes = option_and_then in_32_bits (varint_at bytes)
 
+-- the number whose zigzag number is n
+-- RocksDB: util/coding.h, zigzagToI64
+-- Pinned by: signed_is_taken_again, signed_varints
+abbrev pub from_zigzag : ℕ → ℤ
+from_zigzag n = if n % 2 == 0 then pos (n / 2) else negsuc (n / 2)
+
+-- what was read, as the zigzag number of one that has a sign
+-- Pinned by: signed_varints
+abbrev pub with_sign : ℕ × ℕ → ℤ × ℕ
+with_sign read = (from_zigzag read.0, read.1)
+
+-- the number with a sign whose varint is at the front, and how many bytes it takes
+-- RocksDB: util/coding.h, GetVarsignedint64
+-- Pinned by: signed_is_taken_again, what_is_read_stands_there, signed_varints
+unfoldable pub signed_at : List ℕ → Option (ℤ × ℕ)
+signed_at bytes = option_map with_sign (varint_at bytes)
+
 -- the handle of an offset and a size that were read, and how many bytes both take
 -- RocksDB: table/format.cc, BlockHandle::DecodeFrom
 -- Pinned by: handles
@@ -69,6 +86,11 @@ fixed_at (suc n) (b ∷ bytes) = if nat_lt b 256 then option_map (λ high. b + 2
 -- Pinned by: what_is_read_stands_there
 abbrev pub StartsWithVarint : List ℕ → ℕ → ℕ → Type 0
 StartsWithVarint bytes v used = (rest : List ℕ) × (bytes ≡ varint v ++ rest) × (used ≡ length (varint v))
+
+-- the bytes begin with the spelling of a number that has a sign, which takes so many bytes
+-- Pinned by: what_is_read_stands_there
+abbrev pub StartsWithSigned : List ℕ → ℤ → ℕ → Type 0
+StartsWithSigned bytes v used = (rest : List ℕ) × (bytes ≡ signed_varint v ++ rest) × (used ≡ length (signed_varint v))
 
 -- the bytes begin with the spelling of a block handle, which takes so many bytes
 -- RocksDB: table/format.cc, BlockHandle::DecodeFrom

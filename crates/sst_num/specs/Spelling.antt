@@ -1,6 +1,7 @@
 -- The one spelling of each number and of each block handle in a file.
--- RocksDB: util/coding.h (PutVarint64, PutFixed64, and their kin), table/format.h (BlockHandle::EncodeTo).
-use Rattle.std.specs.Prelude.{◌≡◌, ℕ, zero, suc, ◌+◌, ◌*◌, ◌/◌, ◌%◌, ◌<◌, ◌≤◌, List, [], ◌∷◌, ◌++◌, nat_lt, if◌then◌else◌}
+-- RocksDB: util/coding.h (PutVarint64, PutVarsignedint64, PutFixed64, and their kin), table/format.h
+-- (BlockHandle::EncodeTo).
+use Rattle.std.specs.Prelude.{◌≡◌, ℕ, zero, suc, ◌+◌, ◌*◌, ◌/◌, ◌%◌, ◌^◌, ◌<◌, ◌≤◌, ℤ, pos, negsuc, neg_ℤ, ◌≤ℤ◌, ◌<ℤ◌, List, [], ◌∷◌, ◌++◌, nat_lt, if◌then◌else◌}
 use Rattle.sst_num.specs.declared.block_handle.Handle.{Handle}
 
 -- a number in at most n + 1 groups of seven bits, the lowest group first; a byte of 128 and more says that
@@ -26,6 +27,26 @@ IsVarint [] v = ⊥
 IsVarint (b ∷ []) v = (b < 128) × (v ≡ b)
 IsVarint (b ∷ c ∷ bytes) v =
     (128 ≤ b) × (b < 256) × ((high : ℕ) × (0 < high) × (v + 128 ≡ b + 128 * high) × IsVarint (c ∷ bytes) high)
+
+-- the numbers of 64 bits that have a sign
+-- RocksDB: util/coding.h, PutVarsignedint64, which takes an int64_t
+-- Pinned by: signed_has_one_spelling, take_signed64.none
+abbrev pub IsSigned64 : ℤ → Type 0
+IsSigned64 v = (neg_ℤ (pos (2 ^ 63)) ≤ℤ v) × (v <ℤ pos (2 ^ 63))
+
+-- the number that stands for one with a sign: 0, 2, 4 and so on for 0, 1, 2; and 1, 3, 5 for -1, -2, -3. So it is small
+-- where the number is near to 0. `negsuc n` is -1 - n.
+-- RocksDB: util/coding.h, i64ToZigzag
+-- Pinned by: signed_has_one_spelling, signed_varints
+abbrev pub zigzag : ℤ → ℕ
+zigzag (pos n) = 2 * n
+zigzag (negsuc n) = 2 * n + 1
+
+-- the shortest spelling of a number that has a sign: the varint of its zigzag number
+-- RocksDB: util/coding.h, PutVarsignedint64
+-- Pinned by: signed_has_one_spelling, signed_varints
+abbrev pub signed_varint : ℤ → List ℕ
+signed_varint v = varint (zigzag v)
 
 -- a number in n bytes, the lowest byte first
 -- Pinned by: fixed_reads_back, fixed_numbers

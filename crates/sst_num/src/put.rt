@@ -1,10 +1,11 @@
 //! Numbers and handles, appended in their spelling.
 ghost use Rattle.std.specs.Prelude.{◌≡◌, ℕ, ◌+◌, ◌<◌, ◌≤◌, ◌++◌, length, take, OnOk, OnErr};
 ghost use Rattle.std.specs.Vec.{vec_capacity};
-ghost use Rattle.sst_num.specs.Spelling.{varint, fixed, handle_spelling};
+ghost use Rattle.sst_num.specs.Spelling.{varint, signed_varint, fixed, handle_spelling};
 
 use crate::block_handle::Handle;
 use crate::stops::Memory;
+use crate::zigzag::to_zigzag;
 use byteorder::{ByteOrder, LittleEndian};
 
 /// The most bytes that a varint takes.
@@ -62,6 +63,17 @@ pub fn put_varint64(out: &mut Vec<u8>, v: u64) -> Result<(), Memory>
     let end = write_groups(&mut room, v);
     let (spelling, _) = room.split_at(end);
     put_bytes(out, spelling)
+}
+
+/// Appends a number that has a sign: the varint of its zigzag number, in its shortest spelling.
+///
+/// Where memory runs out, `out` stays as it was. RocksDB: `PutVarsignedint64` in util/coding.h.
+pub fn put_signed64(out: &mut Vec<u8>, v: i64) -> Result<(), Memory>
+    ensures ok { OnOk result (out.new.items ≡ out.old.items ++ signed_varint v) }
+    ensures err { OnErr result (out.new.items ≡ out.old.items) }
+    ensures full { OnErr result (vec_capacity out.old < length out.old.items + length (signed_varint v)) }
+{
+    put_varint64(out, to_zigzag(v))
 }
 
 /// Appends a block handle: its offset and then its size, each as a varint.

@@ -1,10 +1,11 @@
 //! Numbers and handles, read from the front of bytes.
-ghost use Rattle.std.specs.Prelude.{◌≡◌, ℕ, ◌<◌, ◌≤◌, ◌^◌, List, ◌++◌, length, take, IfSome, IfNone};
-ghost use Rattle.sst_num.specs.Spelling.{varint, fixed_value, handle_spelling};
-ghost use Rattle.sst_num.specs.NumberReading.{with_group, groups_at, fixed_at, varint_at, varint32_at, handle_at, StartsWithVarint, StartsWithHandle};
+ghost use Rattle.std.specs.Prelude.{◌≡◌, ℕ, ◌<◌, ◌≤◌, ◌^◌, ℤ, List, ◌++◌, length, take, IfSome, IfNone};
+ghost use Rattle.sst_num.specs.Spelling.{varint, IsSigned64, signed_varint, fixed_value, handle_spelling};
+ghost use Rattle.sst_num.specs.NumberReading.{with_group, groups_at, fixed_at, varint_at, varint32_at, signed_at, handle_at, StartsWithVarint, StartsWithSigned, StartsWithHandle};
 ghost use Rattle.sst_num.specs.declared.block_handle.Handle.{Handle as handle_type};
 
 use crate::block_handle::Handle;
+use crate::zigzag::from_zigzag;
 
 /// The most groups that a varint has.
 const MOST_GROUPS: usize = 10;
@@ -69,6 +70,20 @@ pub fn take_varint32(b: &[u8]) -> Option<(u32, usize)>
     } else {
         None
     }
+}
+
+/// Reads a number that has a sign from the front: the number, and how many bytes it takes.
+///
+/// None comes exactly where no number from -2^63 up to 2^63 - 1 has its one spelling there: as of
+/// [`take_varint64`], which reads the zigzag number. RocksDB: `GetVarsignedint64` in util/coding.h.
+#[tactic(auto, unfolding(crate::specs::NumberReading::signed_at))]
+pub fn take_signed64(b: &[u8]) -> Option<(i64, usize)>
+    ensures exact { result ≡ signed_at b.now }
+    ensures found { IfSome result (λ f. StartsWithSigned b.now f.0 f.1 × (0 < f.1) × (f.1 ≤ length b.now)) }
+    ensures none { IfNone result ((v : ℤ) (rest : List ℕ) → IsSigned64 v → b.now ≡ signed_varint v ++ rest → ⊥) }
+{
+    let (zigzag, used) = take_varint64(b)?;
+    Some((from_zigzag(zigzag), used))
 }
 
 /// Reads a block handle from the front: the handle, and how many bytes it takes.

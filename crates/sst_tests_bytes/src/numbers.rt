@@ -4,8 +4,8 @@
 use sst_num::{
     Bytes, Handle, Memory, Refused, Stop, fixed_is_taken_again, fixed_reads_back, fixed16, fixed32,
     fixed64, handle_is_taken_again, no_varint_begins_another, put_fixed16, put_fixed32,
-    put_fixed64, put_handle, put_varint32, put_varint64, take_handle, take_varint32, take_varint64,
-    varint_is_taken_again, varint_is_the_only_spelling, varint_is_the_spelling,
+    put_fixed64, put_handle, put_signed64, put_varint32, put_varint64, signed_has_one_spelling,
+    signed_is_taken_again, take_handle, take_signed64, take_varint32, take_varint64, varint_is_taken_again, varint_is_the_only_spelling, varint_is_the_spelling,
     varint32_is_taken_again, what_is_read_stands_there,
 };
 use std::alloc::{AllocError, AllocFailed};
@@ -49,6 +49,35 @@ fn the_last_varint(rt: HostRuntime) -> Result<(), Fail> {
     Ok(())
 }
 
+/// Numbers that have a sign and their varints: those next to 0, the first of two bytes, and the two ends.
+static SIGNED_VARINTS: [(i64, &[u8]); 7] = [
+    (0, &[0x00]),
+    (-1, &[0x01]),
+    (1, &[0x02]),
+    (-2, &[0x03]),
+    (64, &[0x80, 0x01]),
+    (
+        i64::MAX,
+        &[0xfe, 0xff, 0xff, 0xff, 0xff, 0xff, 0xff, 0xff, 0xff, 0x01],
+    ),
+    (
+        i64::MIN,
+        &[0xff, 0xff, 0xff, 0xff, 0xff, 0xff, 0xff, 0xff, 0xff, 0x01],
+    ),
+];
+
+#[test]
+fn signed_varints(rt: HostRuntime) -> Result<(), Fail> {
+    for (value, bytes) in SIGNED_VARINTS {
+        let mut out = Vec::new(rt.alloc());
+        put_signed64(&mut out, value)?;
+        assert_eq!(rt; out.as_slice(), bytes, "of {value}");
+        out.push(0xff)?;
+        assert_eq!(rt; take_signed64(&out), Some((value, bytes.len())));
+    }
+    Ok(())
+}
+
 /// Bytes at whose front no varint of 64 bits stands: a longer spelling than need be, a cut one, none; and numbers from
 /// 2^64 on.
 static NO_VARINTS: [&[u8]; 5] = [
@@ -66,6 +95,7 @@ static NO_VARINTS: [&[u8]; 5] = [
 fn no_varints(rt: HostRuntime) {
     for bytes in NO_VARINTS {
         assert_eq!(rt; take_varint64(bytes), None);
+        assert_eq!(rt; take_signed64(bytes), None);
     }
     assert_eq!(rt; take_varint32(&[0x80, 0x80, 0x80, 0x80, 0x10]), None);
 }
@@ -138,6 +168,8 @@ fn laws(_rt: HostRuntime) {
     no_varint_begins_another();
     varint_is_taken_again();
     varint32_is_taken_again();
+    signed_has_one_spelling();
+    signed_is_taken_again();
     handle_is_taken_again();
     fixed_is_taken_again();
     fixed_reads_back();
