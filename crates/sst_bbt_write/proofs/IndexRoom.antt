@@ -9,7 +9,7 @@ use Rattle.sst_key.specs.declared.entries.Entry.{Entry}
 use Rattle.sst_key.specs.Entry.{key_of, IsBefore, IsOrdered, entry_weight, weight}
 use Rattle.sst_key.specs.InternalKey.{internal_cmp}
 use Rattle.sst_key.proofs.TargetOrder.{IsBefore-trans}
-use Rattle.sst_block.specs.declared.row_form.RowForm.TheVariants.{Index}
+use Rattle.sst_block.specs.declared.row_form.RowForm.TheVariants.{Entries, Index}
 use Rattle.sst_block.specs.Block.{Row, AreOrdered}
 use Rattle.sst_block.specs.Builder.{last_key, row_room}
 use Rattle.sst_block.proofs.Size.{block_of-le}
