@@ -48,7 +48,7 @@ value_length (Index user_key true) value = []
 
 -- each row of the form spells the length of its value
 -- For proofs alone.
--- Pinned by: check_block.exact
+-- Pinned by: reading_finds_exactly_the_rows
 abbrev pub SpellsLengths : RowForm → Type 0
 SpellsLengths Entries = Unit {0}
 SpellsLengths Names = Unit {0}
