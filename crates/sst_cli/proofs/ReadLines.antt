@@ -1,5 +1,5 @@
 -- What a line says to a writer.
-use Rattle.std.proofs.Common.{◌≡◌, ℕ, ◌≤◌, List, [], ◌∷◌, ◌++◌, length, Some, None, Result, Err, refl, sym, ap, ◌∙◌, subst}
+use Rattle.std.proofs.Common.{◌≡◌, ℕ, ◌≤◌, Bool, true, false, if◌then◌else◌, List, [], ◌∷◌, ◌++◌, length, Some, None, Result, Err, refl, sym, ap, ◌∙◌}
 use Rattle.std.proofs.lemmas.Bool.{le-ltb}
 use Rattle.sst_key.specs.declared.entries.Entry.{Entry}
 use Rattle.sst_key.specs.declared.faults.WriteFault.{WriteFault}
@@ -33,6 +33,15 @@ pub entry_refused : (entries : List Entry) (line : List ℕ) (e : Entry) (fault 
     → answer ≡ stop.Refused (refused_at number (why.Refused fault)) → answer ≡ stop.Refused refusal → IsRefused (read_line entries line) number refusal
 entry_refused entries line e fault number answer refusal reads given said is =
     record { why = why.Refused fault; reads = reads ∙ ap (by_reason e) given; said = cc }
+
+-- the entry that room for a line's entry holds, where the line is one
+pub line_entry : (line : List ℕ) (is : Bool) (held e : Entry) → (if is then Some held else None) ≡ entry_of_line line → is ≡ true → e ≡ held
+    → entry_of_line line ≡ Some e
+line_entry line is held e read so same = sym read ∙ ap (λ (b : Bool). if b then Some held else None) so ∙ ap Some (sym same)
+
+-- there is none where it isn't
+pub line_none : (line : List ℕ) (is : Bool) (held : Entry) → (if is then Some held else None) ≡ entry_of_line line → is ≡ false → entry_of_line line ≡ None
+line_none line is held read so = sym read ∙ ap (λ (b : Bool). if b then Some held else None) so
 
 -- a line that isn't an entry line
 pub line_refused : (entries : List Entry) (line : List ℕ) (number : ℕ) (answer : InputStop) (refusal : Refusal)
