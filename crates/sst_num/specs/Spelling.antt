@@ -28,7 +28,7 @@ IsVarint (b ∷ []) v = (b < 128) × (v ≡ b)
 IsVarint (b ∷ c ∷ bytes) v =
     (128 ≤ b) × (b < 256) × ((high : ℕ) × (0 < high) × (v + 128 ≡ b + 128 * high) × IsVarint (c ∷ bytes) high)
 
--- the numbers of 64 bits that have a sign
+-- the numbers of 64 bits that have a sign: from -2 ^ 63 up to 2 ^ 63 - 1
 -- RocksDB: util/coding.h, PutVarsignedint64, which takes an int64_t
 -- Pinned by: signed_has_one_spelling, take_signed64.none
 abbrev pub IsSigned64 : ℤ → Type 0

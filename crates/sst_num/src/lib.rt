@@ -44,7 +44,8 @@
 //! - Each `put_` call appends the one spelling of its number, or leaves the list as it was where memory runs out.
 //! - Each `take_` call answers the value whose one spelling is at the front and how many bytes that takes, or None exactly
 //!   where there is none in range. What was put is taken again ([`varint_is_taken_again`], [`varint32_is_taken_again`],
-//!   [`signed_is_taken_again`], [`handle_is_taken_again`], [`fixed_is_taken_again`]), and nothing else is taken ([`what_is_read_stands_there`]).
+//!   [`signed_is_taken_again`], [`handle_is_taken_again`], [`fixed_is_taken_again`]), and nothing else is taken
+//!   ([`what_is_read_stands_there`]).
 //! - A varint is the only spelling of its number ([`varint_is_the_spelling`], [`varint_is_the_only_spelling`]) and begins no
 //!   other ([`no_varint_begins_another`]). So varints that follow one another need no mark between them.
 //!   A signed varint likewise ([`signed_has_one_spelling`]).

@@ -5,7 +5,8 @@ use sst_num::{
     Bytes, Handle, Memory, Refused, Stop, fixed_is_taken_again, fixed_reads_back, fixed16, fixed32,
     fixed64, handle_is_taken_again, no_varint_begins_another, put_fixed16, put_fixed32,
     put_fixed64, put_handle, put_signed64, put_varint32, put_varint64, signed_has_one_spelling,
-    signed_is_taken_again, take_handle, take_signed64, take_varint32, take_varint64, varint_is_taken_again, varint_is_the_only_spelling, varint_is_the_spelling,
+    signed_is_taken_again, take_handle, take_signed64, take_varint32, take_varint64,
+    varint_is_taken_again, varint_is_the_only_spelling, varint_is_the_spelling,
     varint32_is_taken_again, what_is_read_stands_there,
 };
 use std::alloc::{AllocError, AllocFailed};
