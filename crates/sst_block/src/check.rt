@@ -96,7 +96,7 @@ pub fn rows_of<'b>(block: &'b [u8]) -> &'b [u8]
 }
 
 /// Goes through the rows once. Answers how many there are, and how many restarts aren't met at their end, or the
-/// first fault of a row. `key` holds the key of the row before, and `tail` is room that the order is looked at in.
+/// first fault of a row. `key` holds the key of the row before, and `tail` is room in which the order is looked at.
 fn check_rows(
     form: RowForm,
     rows: &[u8],

@@ -199,9 +199,9 @@ fn tails_begin(form: RowForm, shared: usize, before: usize, key: usize) -> usize
 /// Makes `key` the key of the next row, of which the first `shared` bytes stay and the rest is new. Answers whether it is
 /// after the one before, if there is one.
 ///
-/// The keys begin with the same bytes, so their tails decide. Of the key before it is kept in `tail`: what the row drops of
-/// that key, and eight bytes more at most. So the time that all rows of a block take is linear in their bytes, however
-/// long the keys are that they share.
+/// The keys begin with the same bytes, so their tails decide. That of the key before is copied to `tail`: what the row drops
+/// of that key, and at most eight bytes more. So the time that all rows of a block take is linear in their bytes, however
+/// much of their keys they share.
 fn change_key(
     form: RowForm,
     first: bool,
@@ -234,8 +234,8 @@ fn has_room_for_tag(form: RowForm, length: usize) -> bool
     !has_tag(form) || TAG_LENGTH <= length
 }
 
-/// Reads the row at the front, and makes `key`, which holds the key before, its key: none where the row is the first.
-/// `at` is where the row begins, and `tail` is room that the order is looked at in.
+/// Reads the row at the front. `key` holds the key before, or none where the row is the first, and then the row's own. `at`
+/// is where the row begins, and `tail` is room in which the order is looked at.
 #[tactic(auto, unfolding(crate::specs::BlockReading::row_read))]
 pub fn read_row(
     form: RowForm,
