@@ -28,3 +28,5 @@ pub mod Walking
 pub mod Accepted
 pub mod Tails
 pub mod KeyRooms
+pub mod Halves
+pub mod NextRow

@@ -1,9 +1,11 @@
 //! The walk over the rows of a block.
-ghost use Rattle.std.specs.Prelude.{◌≡◌, ℕ, ◌+◌, nat_lt, true, false, List, [], ◌∷◌, length, Option, None, Some, slice_get};
-ghost use Rattle.sst_block.specs.Block.{Row, Block};
-ghost use Rattle.sst_block.specs.Iter.{AreRows, Shows, Walks, place_of};
+ghost use Rattle.std.specs.Prelude.{◌≡◌, ℕ, ◌+◌, ◌<◌, nat_lt, true, false, List, length, Option, None, Some, slice_get};
+ghost use Rattle.sst_block.specs.declared.row_form.RowForm as forms;
+ghost use Rattle.sst_block.specs.Block.{Row, Spelled, Block, SpellsLengths};
+ghost use Rattle.sst_block.specs.BlockReading.{row_at};
+ghost use Rattle.sst_block.specs.Iter.{Walks, WalksIn, HasTaken, StaysIn, place_of, start_of};
 
-use crate::check::rows_of;
+use crate::check::split_whole;
 use crate::row::{row_lengths, split_row};
 use crate::row_form::RowForm;
 use sst_key::KeyRoom;
@@ -17,6 +19,12 @@ use sst_key::KeyRoom;
 pub struct BlockIter<'b> {
     /// The rows of the block.
     rows: &'b [u8],
+    /// The restarts, four bytes each, and what follows them.
+    places: &'b [u8],
+    /// How many restarts there are.
+    count: u32,
+    /// The rows from the one on where it stands.
+    here: &'b [u8],
     /// The rows after the one where it stands.
     after: &'b [u8],
     /// The value of the row where it stands.
@@ -33,12 +41,17 @@ impl<'b> BlockIter<'b> {
     /// The block stands for rows of this form, as one does that `check_block` accepts. `room` is room for the keys.
     pub fn start(block: &'b [u8], form: RowForm, room: KeyRoom) -> BlockIter<'b>
         requires { (rows : List Row) × Block form block.now rows }
-        ensures { (rows : List Row) → Block form block.now rows → Walks result rows None }
+        ensures walks { (rows : List Row) → Block form block.now rows → Walks result rows None }
+        ensures within { SpellsLengths form → (rows : List Row) (b : Block form block.now rows) → WalksIn result form block.now rows b None }
     {
         let _ = form;
-        let rows = rows_of(block);
+        let parts = split_whole(block);
+        let rows = parts.rows;
         BlockIter {
             rows,
+            places: parts.places,
+            count: parts.count,
+            here: rows,
             after: rows,
             value: rows,
             key: room,
@@ -50,6 +63,8 @@ impl<'b> BlockIter<'b> {
     pub fn first(&mut self) -> bool
         requires { (rows : List Row) × (place : Option ℕ) × Walks self.old rows place }
         ensures moves { (rows : List Row) (place : Option ℕ) → Walks self.old rows place → Walks self.new rows (place_of rows 0) }
+        ensures within { (form : forms.RowForm) (bytes : List ℕ) (rows : List Row) (b : Block form bytes rows) (place : Option ℕ)
+            → WalksIn self.old form bytes rows b place → WalksIn self.new form bytes rows b (place_of rows 0) }
         ensures tells { (rows : List Row) (place : Option ℕ) → Walks self.old rows place → result ≡ nat_lt 0 (length rows) }
     {
         self.after = self.rows;
@@ -61,6 +76,8 @@ impl<'b> BlockIter<'b> {
     pub fn next(&mut self) -> bool
         requires { (rows : List Row) × (i : ℕ) × Walks self.old rows (Some i) }
         ensures moves { (rows : List Row) (i : ℕ) → Walks self.old rows (Some i) → Walks self.new rows (place_of rows (i + 1)) }
+        ensures within { (form : forms.RowForm) (bytes : List ℕ) (rows : List Row) (b : Block form bytes rows) (i : ℕ)
+            → WalksIn self.old form bytes rows b (Some i) → WalksIn self.new form bytes rows b (place_of rows (i + 1)) }
         ensures tells { (rows : List Row) (i : ℕ) → Walks self.old rows (Some i) → result ≡ nat_lt (i + 1) (length rows) }
     {
         self.step()
@@ -84,12 +101,29 @@ impl<'b> BlockIter<'b> {
         self.value
     }
 
+    /// Where the row begins in the block where it stands.
+    pub fn row_start(&self) -> u32
+        requires { (rows : List Row) × (i : ℕ) × Walks self.now rows (Some i) }
+        ensures { (form : forms.RowForm) (bytes : List ℕ) (rows : List Row) (b : Block form bytes rows) (i : ℕ)
+            → WalksIn self.now form bytes rows b (Some i) → result ≡ start_of form b.spelled i }
+    {
+        (self.rows.len() - self.here.len()) as u32
+    }
+
+    /// How many restarts the block has, which is one at least.
+    pub fn restarts(&self) -> u32
+        ensures { (form : forms.RowForm) (bytes : List ℕ) (rows : List Row) (b : Block form bytes rows) (place : Option ℕ)
+            → WalksIn self.now form bytes rows b place → (result ≡ length b.restarts) × (0 < result) }
+    {
+        self.count
+    }
+
     /// Goes to the row that comes after, if there is one.
     fn step(&mut self) -> bool
-        ensures none { AreRows self.old.key self.old.after.now [] → (result ≡ false) × (self.new.stands ≡ false) }
-        ensures some { (row : Row) (more : List Row) → AreRows self.old.key self.old.after.now (row ∷ more)
-            → (result ≡ true) × Shows self.new row more }
-        ensures whole { self.new.rows.now ≡ self.old.rows.now }
+        ensures none { row_at self.old.key self.old.after.now ≡ None → (result ≡ false) × (self.new.stands ≡ false) }
+        ensures some { (s : Spelled) (used : ℕ) → row_at self.old.key self.old.after.now ≡ Some (s, used)
+            → (result ≡ true) × HasTaken self.new s used self.old.after.now }
+        ensures stays { StaysIn self.old self.new }
     {
         match row_lengths(self.key.bytes(), self.after) {
             None => {
@@ -100,6 +134,7 @@ impl<'b> BlockIter<'b> {
                 let row = split_row(self.after, l);
                 self.key.set(l.shared, row.rest);
                 self.value = row.value;
+                self.here = self.after;
                 self.after = row.after;
                 self.stands = true;
                 true
