@@ -30,3 +30,5 @@ pub mod Tails
 pub mod KeyRooms
 pub mod Halves
 pub mod NextRow
+pub mod RestartPlaces
+pub mod Forward

@@ -16,6 +16,10 @@ pub record Moves (it : BlockIter) (told : Bool) (key after : List ℕ) : Type 0 
   pub none : row_at key after ≡ None → (told ≡ false) × (it.stands ≡ false)
   pub some : (s : Spelled) (used : ℕ) → row_at key after ≡ Some (s, used) → (told ≡ true) × HasTaken it s used after
 
+pub moves-as : (it : BlockIter) (told : Bool) (key other after bytes : List ℕ) → key ≡ other → after ≡ bytes → Moves it told key after → Moves it told other bytes
+moves-as it told key other after bytes same equal m =
+    subst (λ (b : List ℕ). Moves it told other b) equal (subst (λ (k : List ℕ). Moves it told k after) same m)
+
 -- a walk that stays in its block goes over it as before
 pub stays-in : (old new : BlockIter) (form : RowForm) (bytes : List ℕ) (rows : List Row) (b : Block form bytes rows) (place next : Option ℕ)
     → WalksIn old form bytes rows b place → StaysIn old new → IsAt new form b.spelled next → WalksIn new form bytes rows b next

@@ -1,7 +1,8 @@
 -- What a walk over the rows of a block knows: which block it is, and where the walk stands.
 -- RocksDB: DataBlockIter and IndexBlockIter in table/block_based/block.h.
-use Rattle.std.specs.Prelude.{◌≡◌, ℕ, ◌+◌, true, false, nat_lt, if◌then◌else◌, List, ◌∷◌, length, take, drop, Option, None, Some, slice_get}
+use Rattle.std.specs.Prelude.{◌≡◌, ℕ, ◌+◌, ◌*◌, ◌<◌, ◌≤◌, true, false, nat_lt, if◌then◌else◌, List, ◌∷◌, length, take, drop, Option, None, Some, slice_get}
 use Rattle.std.specs.List.{flat_map}
+use Rattle.sst_num.specs.NumberReading.{fixed_at}
 use Rattle.sst_block.specs.declared.row_form.RowForm.{RowForm}
 use Rattle.sst_block.specs.declared.iter.BlockIter.{BlockIter}
 use Rattle.sst_block.specs.Block.{Row, Spelled, Block, SpellsLengths, row_spelling, restarts_spelling}
@@ -51,6 +52,30 @@ pub record Walks (it : BlockIter) (rows : List Row) (place : Option ℕ) : Type 
 -- Pinned by: next.moves, next.tells, sound_blocks
 abbrev pub place_of : List Row → ℕ → Option ℕ
 place_of rows i = if nat_lt i (length rows) then Some i else None
+
+-- how many bytes of the rows come behind the i-th
+-- For proofs alone.
+abbrev pub bytes_behind : RowForm → List Spelled → ℕ → ℕ
+bytes_behind form spelled i = length (flat_map (row_spelling form) (drop (i + 1) spelled))
+
+-- the number that stands at the place of the i-th restart
+-- For proofs alone.
+abbrev pub restart_at : List ℕ → ℕ → Option ℕ
+restart_at places i = fixed_at 4 (drop (4 * i) places)
+
+-- the walk stands at the i-th row, and so many bytes are left behind the j-th, which is the same or a later one
+-- For proofs alone.
+pub record Reaches (it : BlockIter) (left : ℕ) : Type 0 where
+  pub form : RowForm
+  pub bytes : List ℕ
+  pub rows : List Row
+  pub block : Block form bytes rows
+  pub i : ℕ
+  pub j : ℕ
+  pub walks : WalksIn it form bytes rows block (Some i)
+  pub order : i ≤ j
+  pub within : j < length rows
+  pub leaves : left ≡ bytes_behind form block.spelled j
 
 -- a move to the row at the front of the bytes, which takes `used` of them
 -- For proofs alone.

@@ -17,7 +17,7 @@ use sst_num::{Refused, fixed32};
 use std::alloc::Global;
 
 /// How many bytes a restart takes, and the number of them.
-const NUMBER_LENGTH: usize = 4;
+pub const NUMBER_LENGTH: usize = 4;
 
 /// The restarts that aren't met yet on the way through the rows.
 #[derive(Clone, Copy)]

@@ -1,14 +1,15 @@
 //! The walk over the rows of a block.
-ghost use Rattle.std.specs.Prelude.{◌≡◌, ℕ, ◌+◌, ◌<◌, nat_lt, true, false, List, length, Option, None, Some, slice_get};
+ghost use Rattle.std.specs.Prelude.{◌≡◌, ℕ, ◌+◌, ◌-◌, ◌*◌, ◌<◌, ◌≤◌, nat_lt, true, false, List, [], length, drop, Option, None, Some, slice_get};
 ghost use Rattle.sst_block.specs.declared.row_form.RowForm as forms;
 ghost use Rattle.sst_block.specs.Block.{Row, Spelled, Block, SpellsLengths};
 ghost use Rattle.sst_block.specs.BlockReading.{row_at};
-ghost use Rattle.sst_block.specs.Iter.{Walks, WalksIn, HasTaken, StaysIn, place_of, start_of};
+ghost use Rattle.sst_block.specs.Iter.{Walks, WalksIn, HasTaken, StaysIn, Reaches, place_of, start_of, restart_at, bytes_behind};
 
-use crate::check::split_whole;
+use crate::check::{NUMBER_LENGTH, split_whole};
 use crate::row::{row_lengths, split_row};
 use crate::row_form::RowForm;
 use sst_key::KeyRoom;
+use sst_num::fixed32;
 
 /// A walk over the rows of a block that was checked. It stands at a row or nowhere.
 ///
@@ -116,6 +117,73 @@ impl<'b> BlockIter<'b> {
             → WalksIn self.now form bytes rows b place → (result ≡ length b.restarts) × (0 < result) }
     {
         self.count
+    }
+
+    /// Goes to the row that begins at the restart of this number, from 0. True exactly where there is one: a block without
+    /// rows has the one restart 0. RocksDB: `SeekToRestartPoint`.
+    pub fn at_restart(&mut self, i: u32) -> bool
+        requires { (form : forms.RowForm) × (bytes : List ℕ) × (rows : List Row) × (b : Block form bytes rows) × (place : Option ℕ)
+            × WalksIn self.old form bytes rows b place × (i < length b.restarts) }
+        ensures within { (form : forms.RowForm) (bytes : List ℕ) (rows : List Row) (b : Block form bytes rows) (place : Option ℕ)
+            → WalksIn self.old form bytes rows b place → i < length b.restarts
+            → (k : ℕ) × (slice_get b.restarts i ≡ Some (start_of form b.spelled k)) × WalksIn self.new form bytes rows b (place_of rows k) × (result ≡ nat_lt k (length rows)) }
+        ensures tells { (form : forms.RowForm) (bytes : List ℕ) (rows : List Row) (b : Block form bytes rows) (place : Option ℕ)
+            → WalksIn self.old form bytes rows b place → i < length b.restarts → result ≡ nat_lt 0 (length rows) }
+    {
+        let start = self.restart(i);
+        self.go_to(start)
+    }
+
+    /// Goes to the last row. True exactly where there is one; else it stands nowhere.
+    ///
+    /// It goes to the last restart, and from there forward. RocksDB: `SeekToLast`.
+    pub fn last(&mut self) -> bool
+        requires { (rows : List Row) × (place : Option ℕ) × Walks self.old rows place }
+        ensures moves { (rows : List Row) (place : Option ℕ) → Walks self.old rows place → Walks self.new rows (place_of rows (length rows - 1)) }
+        ensures within { (form : forms.RowForm) (bytes : List ℕ) (rows : List Row) (b : Block form bytes rows) (place : Option ℕ)
+            → WalksIn self.old form bytes rows b place → WalksIn self.new form bytes rows b (place_of rows (length rows - 1)) }
+        ensures tells { (rows : List Row) (place : Option ℕ) → Walks self.old rows place → result ≡ nat_lt 0 (length rows) }
+    {
+        let there = self.at_restart(self.count - 1);
+        if there {
+            self.forward(0);
+        }
+        there
+    }
+
+    /// The restart of this number, from 0.
+    fn restart(&self, i: u32) -> usize
+        requires { 4 * i + 4 ≤ length self.now.places.now }
+        ensures { restart_at self.now.places.now i ≡ Some result }
+    {
+        let (_, from) = self.places.split_at(NUMBER_LENGTH * i as usize);
+        fixed32(from) as usize
+    }
+
+    /// Goes to the row that begins at this place and shares nothing, if there is one.
+    fn go_to(&mut self, start: usize) -> bool
+        requires { start ≤ length self.old.rows.now }
+        ensures none { row_at [] (drop start self.old.rows.now) ≡ None → (result ≡ false) × (self.new.stands ≡ false) }
+        ensures some { (s : Spelled) (used : ℕ) → row_at [] (drop start self.old.rows.now) ≡ Some (s, used)
+            → (result ≡ true) × HasTaken self.new s used (drop start self.old.rows.now) }
+        ensures stays { StaysIn self.old self.new }
+    {
+        let (_, from) = self.rows.split_at(start);
+        self.after = from;
+        self.key.set(0, &[]);
+        self.step()
+    }
+
+    /// Goes forward to the row behind which so many bytes are left. It stands there or before.
+    fn forward(&mut self, left: usize)
+        requires { Reaches self.old left }
+        ensures { (form : forms.RowForm) (bytes : List ℕ) (rows : List Row) (b : Block form bytes rows) (i j : ℕ)
+            → WalksIn self.old form bytes rows b (Some i) → i ≤ j → j < length rows → left ≡ bytes_behind form b.spelled j
+            → WalksIn self.new form bytes rows b (Some j) }
+    {
+        while self.after.len() > left {
+            self.step();
+        }
     }
 
     /// Goes to the row that comes after, if there is one.
