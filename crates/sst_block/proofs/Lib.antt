@@ -32,3 +32,4 @@ pub mod Halves
 pub mod NextRow
 pub mod RestartPlaces
 pub mod Forward
+pub mod Back

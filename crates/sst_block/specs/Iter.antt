@@ -1,6 +1,6 @@
 -- What a walk over the rows of a block knows: which block it is, and where the walk stands.
 -- RocksDB: DataBlockIter and IndexBlockIter in table/block_based/block.h.
-use Rattle.std.specs.Prelude.{◌≡◌, ℕ, ◌+◌, ◌*◌, ◌<◌, ◌≤◌, true, false, nat_lt, if◌then◌else◌, List, ◌∷◌, length, take, drop, Option, None, Some, slice_get}
+use Rattle.std.specs.Prelude.{◌≡◌, ℕ, ◌+◌, ◌-◌, ◌*◌, ◌==◌, ◌<◌, ◌≤◌, true, false, nat_lt, if◌then◌else◌, List, ◌∷◌, length, take, drop, Option, None, Some, slice_get}
 use Rattle.std.specs.List.{flat_map}
 use Rattle.sst_num.specs.NumberReading.{fixed_at}
 use Rattle.sst_block.specs.declared.row_form.RowForm.{RowForm}
@@ -53,6 +53,12 @@ pub record Walks (it : BlockIter) (rows : List Row) (place : Option ℕ) : Type 
 abbrev pub place_of : List Row → ℕ → Option ℕ
 place_of rows i = if nat_lt i (length rows) then Some i else None
 
+-- the row before the i-th, or nowhere where there is none
+-- RocksDB: block.cc, Prev
+-- Pinned by: prev.moves, walks_that_go_back
+abbrev pub place_before : ℕ → Option ℕ
+place_before i = if i == 0 then None else Some (i - 1)
+
 -- how many bytes of the rows come behind the i-th
 -- For proofs alone.
 abbrev pub bytes_behind : RowForm → List Spelled → ℕ → ℕ
@@ -62,6 +68,11 @@ bytes_behind form spelled i = length (flat_map (row_spelling form) (drop (i + 1)
 -- For proofs alone.
 abbrev pub restart_at : List ℕ → ℕ → Option ℕ
 restart_at places i = fixed_at 4 (drop (4 * i) places)
+
+-- the i-th restart is before the place
+-- For proofs alone.
+abbrev pub BeginsBefore : List ℕ → ℕ → ℕ → Type 0
+BeginsBefore places i place = (restart : ℕ) → restart_at places i ≡ Some restart → restart < place
 
 -- the walk stands at the i-th row, and so many bytes are left behind the j-th, which is the same or a later one
 -- For proofs alone.

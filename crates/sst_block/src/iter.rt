@@ -3,7 +3,7 @@ ghost use Rattle.std.specs.Prelude.{◌≡◌, ℕ, ◌+◌, ◌-◌, ◌*◌, �
 ghost use Rattle.sst_block.specs.declared.row_form.RowForm as forms;
 ghost use Rattle.sst_block.specs.Block.{Row, Spelled, Block, SpellsLengths};
 ghost use Rattle.sst_block.specs.BlockReading.{row_at};
-ghost use Rattle.sst_block.specs.Iter.{Walks, WalksIn, HasTaken, StaysIn, Reaches, place_of, start_of, restart_at, bytes_behind};
+ghost use Rattle.sst_block.specs.Iter.{Walks, WalksIn, HasTaken, StaysIn, Reaches, BeginsBefore, place_of, place_before, start_of, restart_at, bytes_behind};
 
 use crate::check::{NUMBER_LENGTH, split_whole};
 use crate::row::{row_lengths, split_row};
@@ -149,6 +149,48 @@ impl<'b> BlockIter<'b> {
             self.forward(0);
         }
         there
+    }
+
+    /// Goes to the row before. True exactly where there is one; else it stands nowhere. It stands at a row before.
+    ///
+    /// It goes to the last restart that is before the row where it stands, and from there forward. RocksDB: `Prev`.
+    pub fn prev(&mut self) -> bool
+        requires { (rows : List Row) × (i : ℕ) × Walks self.old rows (Some i) }
+        ensures moves { (rows : List Row) (i : ℕ) → Walks self.old rows (Some i) → Walks self.new rows (place_before i) }
+        ensures within { (form : forms.RowForm) (bytes : List ℕ) (rows : List Row) (b : Block form bytes rows) (i : ℕ)
+            → WalksIn self.old form bytes rows b (Some i) → WalksIn self.new form bytes rows b (place_before i) }
+        ensures tells { (rows : List Row) (i : ℕ) → Walks self.old rows (Some i) → result ≡ nat_lt 0 i }
+    {
+        let left = self.here.len();
+        let start = self.rows.len() - left;
+        if start == 0 {
+            self.stands = false;
+            return false;
+        }
+        let i = self.restart_before(start);
+        self.at_restart(i);
+        self.forward(left);
+        true
+    }
+
+    /// The number of the last restart that is before the place, which isn't the first of all.
+    fn restart_before(&self, place: usize) -> u32
+        requires some { 0 < self.now.count }
+        requires room { 4 * self.now.count ≤ length self.now.places.now }
+        requires first { BeginsBefore self.now.places.now 0 place }
+        ensures { (result < self.now.count) × BeginsBefore self.now.places.now result place }
+    {
+        let mut low = 0;
+        let mut high = self.count;
+        while high - low > 1 {
+            let middle = low + (high - low) / 2;
+            if self.restart(middle) < place {
+                low = middle;
+            } else {
+                high = middle;
+            }
+        }
+        low
     }
 
     /// The restart of this number, from 0.
