@@ -28,3 +28,8 @@ pub mod Walking
 pub mod Accepted
 pub mod Tails
 pub mod KeyRooms
+pub mod Halves
+pub mod NextRow
+pub mod RestartPlaces
+pub mod Forward
+pub mod Back

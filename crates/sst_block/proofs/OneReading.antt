@@ -75,14 +75,12 @@ one-list (Index true delta) bytes a b left right =
     let plain = λ (rows : List Row). block-as (Index true delta) Names bytes rows (λ a b. refl) (λ row is. (is.0, tt)) tt in
     plain-one Names bytes a b tt (plain a left) (plain b right)
 
--- the rows of a block of any form are read, in some form that spells the lengths of values
-pub block-reads : (form : RowForm) (bytes : List ℕ) (rows : List Row) → Block form bytes rows → (plain : RowForm) × SpellsLengths plain × Reads plain bytes rows
-block-reads Entries bytes rows block = (Entries, tt, read-complete Entries bytes rows tt block)
-block-reads Names bytes rows block = (Names, tt, read-complete Names bytes rows tt block)
-block-reads (Index false false) bytes rows block = (Index false false, tt, read-complete (Index false false) bytes rows tt block)
-block-reads (Index false true) bytes rows block =
-    let plain = block-as (Index false true) (Index false false) bytes rows (λ a b. refl) (λ row is. (is.0, absurd is.1)) tt block in
-    (Index false false, tt, read-complete (Index false false) bytes rows tt plain)
-block-reads (Index true delta) bytes rows block =
-    let plain = block-as (Index true delta) Names bytes rows (λ a b. refl) (λ row is. (is.0, tt)) tt block in
-    (Names, tt, read-complete Names bytes rows tt plain)
+-- a block of any form is one of a form that spells the lengths of values
+pub block-plain : (form : RowForm) (bytes : List ℕ) (rows : List Row) → Block form bytes rows → (plain : RowForm) × SpellsLengths plain × Block plain bytes rows
+block-plain Entries bytes rows block = (Entries, tt, block)
+block-plain Names bytes rows block = (Names, tt, block)
+block-plain (Index false false) bytes rows block = (Index false false, tt, block)
+block-plain (Index false true) bytes rows block =
+    (Index false false, tt, block-as (Index false true) (Index false false) bytes rows (λ a b. refl) (λ row is. (is.0, absurd is.1)) tt block)
+block-plain (Index true delta) bytes rows block =
+    (Names, tt, block-as (Index true delta) Names bytes rows (λ a b. refl) (λ row is. (is.0, tt)) tt block)

@@ -1,122 +1,127 @@
 -- A walk over the rows of a block goes from one to the next.
-use Rattle.std.proofs.Common.{◌≡◌, ◌∙◌, ℕ, zero, suc, ◌+◌, ◌<◌, ◌≤◌, Bool, true, false, inl, inr, List, [], ◌∷◌, length, take, drop, map, Option, Some, None, refl, sym, subst, length-drop, arith}
-use Rattle.std.specs.Prelude.{Result, Ok, Err, slice_get, nat_lt}
+use Rattle.std.proofs.Common.{◌≡◌, ◌∙◌, ℕ, ◌+◌, ◌<◌, ◌≤◌, Bool, true, false, inl, inr, List, [], length, map, take, drop, Option, Some, None, refl, sym, ap, subst, arith}
+use Rattle.std.specs.Prelude.{slice_get, nat_lt}
 use Rattle.std.proofs.lemmas.Bool.{cases_lt, lt-ltb, le-ltb}
-use Rattle.std.proofs.lemmas.List.{drop_all}
 use Rattle.sst_block.specs.declared.row_form.RowForm.{RowForm}
-use Rattle.sst_block.specs.declared.fault.BlockFault.{BlockFault}
 use Rattle.sst_block.specs.declared.iter.BlockIter.{BlockIter}
-use Rattle.sst_block.specs.Block.{Row, Spelled, SpellsLengths, fresh_starts}
-use Rattle.sst_block.specs.BlockReading.{Reads, Gives, block_read, parts_read, restart_count, rows_end, restarts_fault, unless, then_read, onto_rows, row_at, row_read, rows_from, rows_read, key_before}
-use Rattle.sst_block.specs.Iter.{AreRows, Shows, Walks, IsAt, place_of}
-use Rattle.sst_block.proofs.Meeting.{row-some}
-use Rattle.sst_block.proofs.RowLengths.{row_read-length, row_read-at}
+use Rattle.sst_block.specs.Block.{Row, Spelled, Block, SpellsLengths, row_spelling}
+use Rattle.sst_block.specs.BlockReading.{row_at, restart_count, rows_end}
+use Rattle.std.specs.List.{flat_map}
+use Rattle.sst_block.proofs.Halves.{split-block}
+use Rattle.sst_block.specs.Iter.{Walks, WalksIn, IsAt, HasTaken, StaysIn, place_of, start_of}
+use Rattle.sst_block.proofs.NextRow.{Awaits, next-row, none-next, fronts-behind, length-rows, row-spelled, rows-left, drop-at}
 
--- no rows
-none-are : (before : List ℕ) (spelled : List Spelled) (read : Result (List Spelled) BlockFault) → read ≡ Ok [] → read ≡ Ok spelled → AreRows before [] (map (λ (s : Spelled). s.row) spelled)
-none-are before [] read first e = refl
-none-are before (s ∷ spelled) read first e = cc
-
--- one row before others
-one-are : (before bytes : List ℕ) (read : Spelled × ℕ) (rest : Result (List Spelled) BlockFault) (spelled : List Spelled) → row_at before bytes ≡ Some read
-    → ((rows : List Spelled) → rest ≡ Ok rows → AreRows read.0.row.key (drop read.1 bytes) (map (λ (s : Spelled). s.row) rows))
-    → onto_rows read.0 rest ≡ Ok spelled → AreRows before bytes (map (λ (s : Spelled). s.row) spelled)
-one-are before bytes read (Err fault) spelled front others e = cc
-one-are before bytes read (Ok rows) spelled front others e =
-    let same : read.0 ∷ rows ≡ spelled = cc in
-    let whole : AreRows before bytes (map (λ (s : Spelled). s.row) (read.0 ∷ rows)) = (read.0, read.1, front, refl, others rows refl) in
-    subst (λ (l : List Spelled). AreRows before bytes (map (λ (s : Spelled). s.row) l)) same whole
-
--- the rows that are read are the rows that stand there
-rows_from-are : (n : ℕ) (form : RowForm) (at : ℕ) (before : Option (List ℕ)) (bytes : List ℕ) (spelled : List Spelled) → SpellsLengths form → length bytes ≤ n
-    → rows_from n form at before bytes ≡ Ok spelled → AreRows (key_before before) bytes (map (λ (s : Spelled). s.row) spelled)
-rows_from-are zero form at before [] spelled spells h e = none-are (key_before before) spelled (Ok []) refl e
-rows_from-are zero form at before (b ∷ bytes) spelled spells h e = absurd (omega arith)
-rows_from-are (suc n) form at before [] spelled spells h e = none-are (key_before before) spelled (Ok []) refl e
-rows_from-are (suc n) form at before (b ∷ bytes) spelled spells h e =
-    elim (row_read form at before (b ∷ bytes)) as (λ r. row_read form at before (b ∷ bytes) ≡ r
-    → then_read r (λ read. onto_rows read.0 (rows_from n form (at + read.1) (Some read.0.row.key) (drop read.1 (b ∷ bytes)))) ≡ Ok spelled
-    → AreRows (key_before before) (b ∷ bytes) (map (λ (s : Spelled). s.row) spelled)) [
-      | Err fault ↦ λ same said. cc
-      | Ok read ↦ λ same said.
-          let long = row_read-length form at before (b ∷ bytes) read spells same in
-          let some = row-some form read.0 in
-          let left = length-drop read.1 (b ∷ bytes) in
-          one-are (key_before before) (b ∷ bytes) read (rows_from n form (at + read.1) (Some read.0.row.key) (drop read.1 (b ∷ bytes))) spelled
-          (row_read-at form at before (b ∷ bytes) read same)
-          (λ rows next. rows_from-are n form (at + read.1) (Some read.0.row.key) (drop read.1 (b ∷ bytes)) rows spells (omega (arith, long, some, left)) next)
-          said
-    ] refl e
-
-unless-same : (rows spelled : List Spelled) (fault : Option BlockFault) → unless rows fault ≡ Ok spelled → Ok rows ≡ unless spelled None
-unless-same rows spelled None e = e
-unless-same rows spelled (Some fault) e = cc
-
-sound-rows : (read : Result (List Spelled) BlockFault) (fault : List Spelled → Option BlockFault) (spelled : List Spelled)
-    → then_read read (λ rows. unless rows (fault rows)) ≡ Ok spelled → read ≡ Ok spelled
-sound-rows (Err found) fault spelled e = cc
-sound-rows (Ok rows) fault spelled e = unless-same rows spelled (fault rows) e
-
--- what is read of a block are the rows before its restarts
-pub Reads-rows : (form : RowForm) (block left : List ℕ) (rows : List Row) → SpellsLengths form → Reads form block rows
-    → ((count : ℕ) → restart_count block ≡ Some count → left ≡ take (rows_end block count) block) → AreRows [] left rows
-unfolding block_read rows_read
-Reads-rows form block left rows spells r front =
-    elim (restart_count block) as (λ c. restart_count block ≡ c → parts_read form block c ≡ Ok r.spelled → AreRows [] left rows) [
-      | None ↦ λ same e. cc
-      | Some count ↦ λ same e.
-          let bytes = take (rows_end block count) block in
-          let read = sound-rows (rows_read form bytes) (λ rows. restarts_fault (fresh_starts form 0 rows) count (drop (rows_end block count) block)) r.spelled e in
-          let are = rows_from-are (length bytes) form 0 None bytes r.spelled spells (omega arith) read in
-          let all = subst (λ (l : List Row). AreRows [] bytes l) r.are_rows are in
-          subst (λ (l : List ℕ). AreRows [] l rows) (sym (front count same)) all
-    ] refl r.reads
-
-nth : (rows : List Row) (i : ℕ) → i < length rows → (row : Row) × (slice_get rows i ≡ Some row) × (drop i rows ≡ row ∷ drop (i + 1) rows)
-nth [] i h = absurd (omega arith)
-nth (row ∷ rows) zero h = (row, refl, refl)
-nth (row ∷ rows) (suc i) h =
-    let rest = nth rows i (omega arith) in
-    let next : suc i + 1 ≡ suc (i + 1) = omega arith in
-    (rest.0, rest.1, rw next rest.2)
-
--- one row on from before the i-th: the walk shows it, or there is none
+-- one row on: the walk shows the row at the front of the bytes, or there is none
 pub record Moves (it : BlockIter) (told : Bool) (key after : List ℕ) : Type 0 where
-  pub none : AreRows key after [] → (told ≡ false) × (it.stands ≡ false)
-  pub some : (row : Row) (more : List Row) → AreRows key after (row ∷ more) → (told ≡ true) × Shows it row more
+  pub none : row_at key after ≡ None → (told ≡ false) × (it.stands ≡ false)
+  pub some : (s : Spelled) (used : ℕ) → row_at key after ≡ Some (s, used) → (told ≡ true) × HasTaken it s used after
 
--- what a move to the i-th row tells, where the bytes are the rows from there on
-pub step-place : (it : BlockIter) (told : Bool) (key after : List ℕ) (rows : List Row) (i : ℕ) → Moves it told key after → AreRows key after (drop i rows)
-    → IsAt it rows (place_of rows i) × (told ≡ nat_lt i (length rows))
-step-place it told key after rows i m are =
+pub moves-as : (it : BlockIter) (told : Bool) (key other after bytes : List ℕ) → key ≡ other → after ≡ bytes → Moves it told key after → Moves it told other bytes
+moves-as it told key other after bytes same equal m =
+    subst (λ (b : List ℕ). Moves it told other b) equal (subst (λ (k : List ℕ). Moves it told k after) same m)
+
+-- a walk that stays in its block goes over it as before
+pub stays-in : (old new : BlockIter) (form : RowForm) (bytes : List ℕ) (rows : List Row) (b : Block form bytes rows) (place next : Option ℕ)
+    → WalksIn old form bytes rows b place → StaysIn old new → IsAt new form b.spelled next → WalksIn new form bytes rows b next
+stays-in old new form bytes rows b place next w stays at =
+    record {
+      rows_are = stays.rows ∙ w.rows_are;
+      places_are = stays.places ∙ w.places_are;
+      count = stays.count ∙ w.count;
+      spells = w.spells;
+      is_at = at;
+    }
+
+-- a move to the i-th row, where the rows from there on come next
+pub step-place : (old new : BlockIter) (told : Bool) (form : RowForm) (bytes : List ℕ) (rows : List Row) (b : Block form bytes rows) (place : Option ℕ) (i : ℕ) (key after : List ℕ)
+    → WalksIn old form bytes rows b place → StaysIn old new → Awaits form b.spelled i key after → Moves new told key after
+    → WalksIn new form bytes rows b (place_of rows i) × (told ≡ nat_lt i (length rows))
+step-place old new told form bytes rows b place i key after w stays a m =
+    let many = length-rows form bytes rows b in
     elim (cases_lt i (length rows)) [
       | inl within ↦
-          let here = nth rows i within in
-          let moved = m.some here.0 (drop (i + 1) rows) (subst (λ (l : List Row). AreRows key after l) here.2 are) in
-          rw (lt-ltb i (length rows) within) ((here.0, here.1, moved.1), moved.0)
+          let next = next-row form bytes rows b i key after w.spells (omega (arith, within, many)) a in
+          let moved = m.some next.s (length (row_spelling form next.s)) next.reads in
+          let taken = moved.1 in
+          let at : IsAt new form b.spelled (Some i) = (next.s, next.at, record {
+            stands = taken.stands;
+            key = taken.key;
+            value = taken.value;
+            here = taken.here ∙ next.here;
+            after = taken.after ∙ next.rest;
+          }) in
+          rw (lt-ltb i (length rows) within) (stays-in old new form bytes rows b place (Some i) w stays at, moved.0)
       | inr past ↦
-          let moved = m.none (subst (λ (l : List Row). AreRows key after l) (drop_all i rows past) are) in
-          rw (le-ltb i (length rows) past) (moved.1, moved.0)
+          let moved = m.none (none-next form b.spelled i key after w.spells (omega (arith, past, many)) a) in
+          rw (le-ltb i (length rows) past) (stays-in old new form bytes rows b place None w stays moved.1, moved.0)
     ]
 
 -- the first row
-pub Walks-first : (old new : BlockIter) (told : Bool) (key after : List ℕ) (rows : List Row) (place : Option ℕ) → Walks old rows place
-    → Moves new told key after → key ≡ [] → after ≡ old.rows.now → new.rows.now ≡ old.rows.now
-    → Walks new rows (place_of rows 0) × (told ≡ nat_lt 0 (length rows))
-Walks-first old new told key after rows place w m no_key from same =
-    let are : AreRows key after rows = rw (no_key, from) w.whole in
-    let moved = step-place new told key after rows 0 m are in
-    (record { whole = rw same w.whole; is_at = moved.0 }, moved.1)
+pub first-in : (old new : BlockIter) (told : Bool) (form : RowForm) (bytes : List ℕ) (rows : List Row) (b : Block form bytes rows) (place : Option ℕ) (key after : List ℕ)
+    → WalksIn old form bytes rows b place → StaysIn old new → Moves new told key after → key ≡ [] → after ≡ old.rows.now
+    → WalksIn new form bytes rows b (place_of rows 0) × (told ≡ nat_lt 0 (length rows))
+first-in old new told form bytes rows b place key after w stays m no_key from =
+    step-place old new told form bytes rows b place 0 key after w stays
+    (record { after = from ∙ w.rows_are; fronts = rw no_key b.fronts }) m
+
+-- behind the row where it stands come those after it
+pub awaits-next : (it : BlockIter) (form : RowForm) (bytes : List ℕ) (rows : List Row) (b : Block form bytes rows) (i : ℕ) → WalksIn it form bytes rows b (Some i)
+    → Awaits form b.spelled (i + 1) it.key it.after.now
+awaits-next it form bytes rows b i w =
+    let shows = w.is_at.2 in
+    record { after = shows.after; fronts = rw (shows.key) (fronts-behind b.spelled [] i w.is_at.0 b.fronts w.is_at.1) }
 
 -- the row behind the i-th
-pub Walks-next : (old new : BlockIter) (told : Bool) (rows : List Row) (i : ℕ) → Walks old rows (Some i)
-    → Moves new told old.key old.after.now → new.rows.now ≡ old.rows.now
-    → Walks new rows (place_of rows (i + 1)) × (told ≡ nat_lt (i + 1) (length rows))
-Walks-next old new told rows i w m same =
+pub next-in : (old new : BlockIter) (told : Bool) (form : RowForm) (bytes : List ℕ) (rows : List Row) (b : Block form bytes rows) (i : ℕ)
+    → WalksIn old form bytes rows b (Some i) → StaysIn old new → Moves new told old.key old.after.now
+    → WalksIn new form bytes rows b (place_of rows (i + 1)) × (told ≡ nat_lt (i + 1) (length rows))
+next-in old new told form bytes rows b i w stays m =
+    step-place old new told form bytes rows b (Some i) (i + 1) old.key old.after.now w stays (awaits-next old form bytes rows b i w) m
+
+-- the bytes before the row where it stands
+pub start-at : (it : BlockIter) (form : RowForm) (bytes : List ℕ) (rows : List Row) (b : Block form bytes rows) (i : ℕ) → WalksIn it form bytes rows b (Some i)
+    → length it.rows.now ≡ start_of form b.spelled i + length it.here.now
+start-at it form bytes rows b i w =
     let shows = w.is_at.2 in
-    let are : AreRows old.key old.after.now (drop (i + 1) rows) = rw (shows.key) shows.after in
-    let moved = step-place new told old.key old.after.now rows (i + 1) m are in
-    (record { whole = rw same w.whole; is_at = moved.0 }, moved.1)
+    let here : length it.here.now ≡ length (flat_map (row_spelling form) (drop i b.spelled)) =
+    ap length (shows.here ∙ ap (flat_map (row_spelling form)) (sym (drop-at b.spelled i w.is_at.0 w.is_at.1))) in
+    ap length w.rows_are ∙ omega (arith, here, rows-left form b.spelled i)
+
+-- what a walk shows at a row of the block
+pub key-in : (it : BlockIter) (rows : List Row) (i : ℕ) (w : Walks it rows (Some i)) → (row : Row) × (slice_get rows i ≡ Some row) × (it.key ≡ row.key)
+key-in it rows i w =
+    let at = w.walks.is_at in
+    (at.0.row, row-spelled w.form w.bytes rows w.block i at.0 at.1, at.2.key)
+
+pub value-in : (it : BlockIter) (rows : List Row) (i : ℕ) (w : Walks it rows (Some i)) → (row : Row) × (slice_get rows i ≡ Some row) × (it.value.now ≡ row.value)
+value-in it rows i w =
+    let at = w.walks.is_at in
+    (at.0.row, row-spelled w.form w.bytes rows w.block i at.0 at.1, at.2.value)
+
+-- the two halves of a block
+pub record IsSplit (it : BlockIter) (block : List ℕ) (count : ℕ) : Type 0 where
+  pub rows : it.rows.now ≡ take (rows_end block count) block
+  pub places : it.places.now ≡ drop (rows_end block count) block
+  pub count_is : it.count ≡ count
+
+-- a walk that begins over the halves of a block stands nowhere
+pub starts-in : (it : BlockIter) (form : RowForm) (bytes : List ℕ) (rows : List Row) (b : Block form bytes rows) → SpellsLengths form
+    → ((count : ℕ) → restart_count bytes ≡ Some count → IsSplit it bytes count) → it.stands ≡ false → WalksIn it form bytes rows b None
+starts-in it form bytes rows b spells halves nowhere =
+    let split = split-block form bytes rows b in
+    let found = halves (length b.restarts) split.counted in
+    record {
+      rows_are = found.rows ∙ split.front;
+      places_are = found.places ∙ split.back;
+      count = found.count_is;
+      spells = spells;
+      is_at = nowhere;
+    }
+
+-- what goes over the rows of a block goes over the rows
+pub walks-of : (it : BlockIter) (form : RowForm) (bytes : List ℕ) (rows : List Row) (b : Block form bytes rows) (place : Option ℕ) → WalksIn it form bytes rows b place
+    → Walks it rows place
+walks-of it form bytes rows b place w = record { form = form; bytes = bytes; block = b; walks = w }
 
 -- a walk that was moved to the i-th row stands there exactly where it said so
 pub record Moved (it : BlockIter) (there : Bool) : Type 0 where
@@ -137,8 +142,3 @@ pub Moved-next : (it moved : BlockIter) (there told : Bool) → Moved it there �
 Moved-next it moved there told m is moves tells =
     let s = Moved-stands it there m is in
     record { rows = s.0; i = s.1 + 1; walks = moves s.0 s.1 s.2; told = tells s.0 s.1 s.2 }
-
--- a block that is accepted stands for some rows
-pub Gives-reads : (form : RowForm) (block : List ℕ) (n : ℕ) → Gives (Ok n) (block_read form block) → (rows : List Row) × Reads form block rows
-Gives-reads form block n given =
-    (map (λ (s : Spelled). s.row) given.0, record { spelled = given.0; reads = given.1; are_rows = refl })

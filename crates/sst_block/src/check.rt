@@ -17,7 +17,7 @@ use sst_num::{Refused, fixed32};
 use std::alloc::Global;
 
 /// How many bytes a restart takes, and the number of them.
-const NUMBER_LENGTH: usize = 4;
+pub const NUMBER_LENGTH: usize = 4;
 
 /// The restarts that aren't met yet on the way through the rows.
 #[derive(Clone, Copy)]
@@ -85,13 +85,36 @@ fn split_block<'b>(block: &'b [u8], count: u32) -> (&'b [u8], &'b [u8])
     block.split_at(block.len() - NUMBER_LENGTH - NUMBER_LENGTH * count as usize)
 }
 
-/// The rows of a block whose footer is good.
-pub fn rows_of<'b>(block: &'b [u8]) -> &'b [u8]
-    ensures { (count : ℕ) → reading.restart_count block.now ≡ Some count → result.now ≡ take (rows_end block.now count) block.now }
+/// A block split before its restarts.
+#[derive(Clone, Copy)]
+pub struct Halves<'b> {
+    /// The rows.
+    pub rows: &'b [u8],
+    /// The restarts, four bytes each, and the footer.
+    pub places: &'b [u8],
+    /// How many restarts there are.
+    pub count: u32,
+}
+
+/// The halves of a block whose footer is good.
+pub fn split_whole<'b>(block: &'b [u8]) -> Halves<'b>
+    ensures { (count : ℕ) → reading.restart_count block.now ≡ Some count
+        → (result.rows.now ≡ take (rows_end block.now count) block.now) × (result.places.now ≡ drop (rows_end block.now count) block.now) × (result.count ≡ count) }
 {
     match restart_count(block) {
-        Some(count) => split_block(block, count).0,
-        None => block,
+        Some(count) => {
+            let (rows, places) = split_block(block, count);
+            Halves {
+                rows,
+                places,
+                count,
+            }
+        }
+        None => Halves {
+            rows: block,
+            places: block,
+            count: 0,
+        },
     }
 }
 

@@ -1,12 +1,15 @@
 //! The walk over the rows of a block.
-ghost use Rattle.std.specs.Prelude.{◌≡◌, ℕ, ◌+◌, nat_lt, true, false, List, [], ◌∷◌, length, Option, None, Some, slice_get};
-ghost use Rattle.sst_block.specs.Block.{Row, Block};
-ghost use Rattle.sst_block.specs.Iter.{AreRows, Shows, Walks, place_of};
+ghost use Rattle.std.specs.Prelude.{◌≡◌, ℕ, ◌+◌, ◌-◌, ◌*◌, ◌<◌, ◌≤◌, nat_lt, true, false, List, [], length, drop, Option, None, Some, slice_get};
+ghost use Rattle.sst_block.specs.declared.row_form.RowForm as forms;
+ghost use Rattle.sst_block.specs.Block.{Row, Spelled, Block, SpellsLengths};
+ghost use Rattle.sst_block.specs.BlockReading.{row_at};
+ghost use Rattle.sst_block.specs.Iter.{Walks, WalksIn, HasTaken, StaysIn, Reaches, BeginsBefore, place_of, place_before, start_of, restart_at, bytes_behind};
 
-use crate::check::rows_of;
+use crate::check::{NUMBER_LENGTH, split_whole};
 use crate::row::{row_lengths, split_row};
 use crate::row_form::RowForm;
 use sst_key::KeyRoom;
+use sst_num::fixed32;
 
 /// A walk over the rows of a block that was checked. It stands at a row or nowhere.
 ///
@@ -17,6 +20,12 @@ use sst_key::KeyRoom;
 pub struct BlockIter<'b> {
     /// The rows of the block.
     rows: &'b [u8],
+    /// The restarts, four bytes each, and what follows them.
+    places: &'b [u8],
+    /// How many restarts there are.
+    count: u32,
+    /// The rows from the one on where it stands.
+    here: &'b [u8],
     /// The rows after the one where it stands.
     after: &'b [u8],
     /// The value of the row where it stands.
@@ -33,12 +42,17 @@ impl<'b> BlockIter<'b> {
     /// The block stands for rows of this form, as one does that `check_block` accepts. `room` is room for the keys.
     pub fn start(block: &'b [u8], form: RowForm, room: KeyRoom) -> BlockIter<'b>
         requires { (rows : List Row) × Block form block.now rows }
-        ensures { (rows : List Row) → Block form block.now rows → Walks result rows None }
+        ensures walks { (rows : List Row) → Block form block.now rows → Walks result rows None }
+        ensures within { SpellsLengths form → (rows : List Row) (b : Block form block.now rows) → WalksIn result form block.now rows b None }
     {
         let _ = form;
-        let rows = rows_of(block);
+        let parts = split_whole(block);
+        let rows = parts.rows;
         BlockIter {
             rows,
+            places: parts.places,
+            count: parts.count,
+            here: rows,
             after: rows,
             value: rows,
             key: room,
@@ -50,6 +64,8 @@ impl<'b> BlockIter<'b> {
     pub fn first(&mut self) -> bool
         requires { (rows : List Row) × (place : Option ℕ) × Walks self.old rows place }
         ensures moves { (rows : List Row) (place : Option ℕ) → Walks self.old rows place → Walks self.new rows (place_of rows 0) }
+        ensures within { (form : forms.RowForm) (bytes : List ℕ) (rows : List Row) (b : Block form bytes rows) (place : Option ℕ)
+            → WalksIn self.old form bytes rows b place → WalksIn self.new form bytes rows b (place_of rows 0) }
         ensures tells { (rows : List Row) (place : Option ℕ) → Walks self.old rows place → result ≡ nat_lt 0 (length rows) }
     {
         self.after = self.rows;
@@ -61,6 +77,8 @@ impl<'b> BlockIter<'b> {
     pub fn next(&mut self) -> bool
         requires { (rows : List Row) × (i : ℕ) × Walks self.old rows (Some i) }
         ensures moves { (rows : List Row) (i : ℕ) → Walks self.old rows (Some i) → Walks self.new rows (place_of rows (i + 1)) }
+        ensures within { (form : forms.RowForm) (bytes : List ℕ) (rows : List Row) (b : Block form bytes rows) (i : ℕ)
+            → WalksIn self.old form bytes rows b (Some i) → WalksIn self.new form bytes rows b (place_of rows (i + 1)) }
         ensures tells { (rows : List Row) (i : ℕ) → Walks self.old rows (Some i) → result ≡ nat_lt (i + 1) (length rows) }
     {
         self.step()
@@ -84,12 +102,138 @@ impl<'b> BlockIter<'b> {
         self.value
     }
 
+    /// Where the row begins in the block where it stands.
+    pub fn row_start(&self) -> u32
+        requires { (rows : List Row) × (i : ℕ) × Walks self.now rows (Some i) }
+        ensures { (form : forms.RowForm) (bytes : List ℕ) (rows : List Row) (b : Block form bytes rows) (i : ℕ)
+            → WalksIn self.now form bytes rows b (Some i) → result ≡ start_of form b.spelled i }
+    {
+        (self.rows.len() - self.here.len()) as u32
+    }
+
+    /// How many restarts the block has, which is one at least.
+    pub fn restarts(&self) -> u32
+        ensures { (form : forms.RowForm) (bytes : List ℕ) (rows : List Row) (b : Block form bytes rows) (place : Option ℕ)
+            → WalksIn self.now form bytes rows b place → (result ≡ length b.restarts) × (0 < result) }
+    {
+        self.count
+    }
+
+    /// Goes to the row that begins at the restart of this number, from 0. True exactly where there is one: a block without
+    /// rows has the one restart 0. RocksDB: `SeekToRestartPoint`.
+    pub fn at_restart(&mut self, i: u32) -> bool
+        requires { (form : forms.RowForm) × (bytes : List ℕ) × (rows : List Row) × (b : Block form bytes rows) × (place : Option ℕ)
+            × WalksIn self.old form bytes rows b place × (i < length b.restarts) }
+        ensures within { (form : forms.RowForm) (bytes : List ℕ) (rows : List Row) (b : Block form bytes rows) (place : Option ℕ)
+            → WalksIn self.old form bytes rows b place → i < length b.restarts
+            → (k : ℕ) × (slice_get b.restarts i ≡ Some (start_of form b.spelled k)) × WalksIn self.new form bytes rows b (place_of rows k) × (result ≡ nat_lt k (length rows)) }
+        ensures tells { (form : forms.RowForm) (bytes : List ℕ) (rows : List Row) (b : Block form bytes rows) (place : Option ℕ)
+            → WalksIn self.old form bytes rows b place → i < length b.restarts → result ≡ nat_lt 0 (length rows) }
+    {
+        let start = self.restart(i);
+        self.go_to(start)
+    }
+
+    /// Goes to the last row. True exactly where there is one; else it stands nowhere.
+    ///
+    /// It goes to the last restart, and from there forward. RocksDB: `SeekToLast`.
+    pub fn last(&mut self) -> bool
+        requires { (rows : List Row) × (place : Option ℕ) × Walks self.old rows place }
+        ensures moves { (rows : List Row) (place : Option ℕ) → Walks self.old rows place → Walks self.new rows (place_of rows (length rows - 1)) }
+        ensures within { (form : forms.RowForm) (bytes : List ℕ) (rows : List Row) (b : Block form bytes rows) (place : Option ℕ)
+            → WalksIn self.old form bytes rows b place → WalksIn self.new form bytes rows b (place_of rows (length rows - 1)) }
+        ensures tells { (rows : List Row) (place : Option ℕ) → Walks self.old rows place → result ≡ nat_lt 0 (length rows) }
+    {
+        let there = self.at_restart(self.count - 1);
+        if there {
+            self.forward(0);
+        }
+        there
+    }
+
+    /// Goes to the row before. True exactly where there is one; else it stands nowhere. It stands at a row before.
+    ///
+    /// It goes to the last restart that is before the row where it stands, and from there forward. RocksDB: `Prev`.
+    pub fn prev(&mut self) -> bool
+        requires { (rows : List Row) × (i : ℕ) × Walks self.old rows (Some i) }
+        ensures moves { (rows : List Row) (i : ℕ) → Walks self.old rows (Some i) → Walks self.new rows (place_before i) }
+        ensures within { (form : forms.RowForm) (bytes : List ℕ) (rows : List Row) (b : Block form bytes rows) (i : ℕ)
+            → WalksIn self.old form bytes rows b (Some i) → WalksIn self.new form bytes rows b (place_before i) }
+        ensures tells { (rows : List Row) (i : ℕ) → Walks self.old rows (Some i) → result ≡ nat_lt 0 i }
+    {
+        let left = self.here.len();
+        let start = self.rows.len() - left;
+        if start == 0 {
+            self.stands = false;
+            return false;
+        }
+        let i = self.restart_before(start);
+        self.at_restart(i);
+        self.forward(left);
+        true
+    }
+
+    /// The number of the last restart that is before the place, which isn't the first of all.
+    fn restart_before(&self, place: usize) -> u32
+        requires some { 0 < self.now.count }
+        requires room { 4 * self.now.count ≤ length self.now.places.now }
+        requires first { BeginsBefore self.now.places.now 0 place }
+        ensures { (result < self.now.count) × BeginsBefore self.now.places.now result place }
+    {
+        let mut low = 0;
+        let mut high = self.count;
+        while high - low > 1 {
+            let middle = low + (high - low) / 2;
+            if self.restart(middle) < place {
+                low = middle;
+            } else {
+                high = middle;
+            }
+        }
+        low
+    }
+
+    /// The restart of this number, from 0.
+    fn restart(&self, i: u32) -> usize
+        requires { 4 * i + 4 ≤ length self.now.places.now }
+        ensures { restart_at self.now.places.now i ≡ Some result }
+    {
+        let (_, from) = self.places.split_at(NUMBER_LENGTH * i as usize);
+        fixed32(from) as usize
+    }
+
+    /// Goes to the row that begins at this place and shares nothing, if there is one.
+    fn go_to(&mut self, start: usize) -> bool
+        requires { start ≤ length self.old.rows.now }
+        ensures none { row_at [] (drop start self.old.rows.now) ≡ None → (result ≡ false) × (self.new.stands ≡ false) }
+        ensures some { (s : Spelled) (used : ℕ) → row_at [] (drop start self.old.rows.now) ≡ Some (s, used)
+            → (result ≡ true) × HasTaken self.new s used (drop start self.old.rows.now) }
+        ensures stays { StaysIn self.old self.new }
+    {
+        let (_, from) = self.rows.split_at(start);
+        self.after = from;
+        self.key.set(0, &[]);
+        self.step()
+    }
+
+    /// Goes forward to the row behind which so many bytes are left. It stands there or before.
+    fn forward(&mut self, left: usize)
+        requires { Reaches self.old left }
+        ensures { (form : forms.RowForm) (bytes : List ℕ) (rows : List Row) (b : Block form bytes rows) (i j : ℕ)
+            → WalksIn self.old form bytes rows b (Some i) → i ≤ j → j < length rows → left ≡ bytes_behind form b.spelled j
+            → WalksIn self.new form bytes rows b (Some j) }
+    {
+        while self.after.len() > left {
+            self.step();
+        }
+    }
+
     /// Goes to the row that comes after, if there is one.
     fn step(&mut self) -> bool
-        ensures none { AreRows self.old.key self.old.after.now [] → (result ≡ false) × (self.new.stands ≡ false) }
-        ensures some { (row : Row) (more : List Row) → AreRows self.old.key self.old.after.now (row ∷ more)
-            → (result ≡ true) × Shows self.new row more }
-        ensures whole { self.new.rows.now ≡ self.old.rows.now }
+        ensures none { row_at self.old.key self.old.after.now ≡ None → (result ≡ false) × (self.new.stands ≡ false) }
+        ensures some { (s : Spelled) (used : ℕ) → row_at self.old.key self.old.after.now ≡ Some (s, used)
+            → (result ≡ true) × HasTaken self.new s used self.old.after.now }
+        ensures stays { StaysIn self.old self.new }
     {
         match row_lengths(self.key.bytes(), self.after) {
             None => {
@@ -100,6 +244,7 @@ impl<'b> BlockIter<'b> {
                 let row = split_row(self.after, l);
                 self.key.set(l.shared, row.rest);
                 self.value = row.value;
+                self.here = self.after;
                 self.after = row.after;
                 self.stands = true;
                 true
