@@ -5,7 +5,7 @@ use Rattle.sst_device.specs.Folder.{Files}
 
 -- A call over a stream hides no fault. `Failed` says that the call answers that a device failed; the numbers are the count
 -- of faults before the call and after it.
--- Pinned by: put_all.faults, read_line.faults, put_all.faults
+-- Pinned by: put_all.faults, read_line.faults
 pub record CountsFaults (Failed : Type 0) (before now : ℕ) : Type 0 where
   pub counts : before ≤ now
   pub hides_none : Failed ⊎ (now ≡ before)
