@@ -1,5 +1,5 @@
 -- A walk goes back to the row before by a restart before the row where it stands.
-use Rattle.std.proofs.Common.{◌≡◌, inl, inr, ℕ, zero, suc, ◌+◌, ◌-◌, ◌*◌, ◌==◌, ◌<◌, ◌≤◌, nat_lt, Bool, true, false, List, [], ◌∷◌, length, length-append, take, drop, Option, Some, None, refl, sym, subst, ap, ◌∙◌, arith}
+use Rattle.std.proofs.Common.{◌≡◌, inl, inr, ℕ, zero, suc, ◌+◌, ◌-◌, ◌<◌, ◌≤◌, false, List, [], ◌∷◌, length, length-append, take, drop, Option, Some, None, sym, ap, ◌∙◌, arith}
 use Rattle.std.specs.Prelude.{slice_get}
 use Rattle.std.specs.List.{flat_map}
 use Rattle.std.proofs.lemmas.Bool.{cases_lt, lt-ltb, ne_eqb, eq-eqb}
@@ -8,10 +8,10 @@ use Rattle.sst_block.specs.declared.row_form.RowForm.{RowForm}
 use Rattle.sst_block.specs.declared.iter.BlockIter.{BlockIter}
 use Rattle.sst_block.specs.Block.{Row, Spelled, Block, row_spelling}
 use Rattle.sst_block.specs.Iter.{WalksIn, StaysIn, Reaches, BeginsBefore, start_of, bytes_behind, restart_at, place_of, place_before}
-use Rattle.sst_block.proofs.NextRow.{length-rows, rows-left, drop-at}
+use Rattle.sst_block.proofs.NextRow.{length-rows, drop-at}
 use Rattle.sst_block.proofs.RestartRules.{restarts-parts}
 use Rattle.sst_block.proofs.Walking.{start-at, stays-in}
-use Rattle.sst_block.proofs.RestartPlaces.{restart-found, restart-read, restart-room}
+use Rattle.sst_block.proofs.RestartPlaces.{restart-found, restart-read}
 use Rattle.sst_block.proofs.Forward.{GoesForward, starts-rise}
 
 -- the row where a walk stands is one of the block

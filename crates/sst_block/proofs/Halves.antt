@@ -1,5 +1,5 @@
 -- A block splits before its restarts into the spelling of its rows and that of its restarts.
-use Rattle.std.proofs.Common.{◌≡◌, ℕ, ◌+◌, ◌*◌, ◌<◌, ◌^◌, List, ◌++◌, ◌∷◌, length, length-append, take, drop, append_assoc, Some, sym, ap, ◌∙◌, arith}
+use Rattle.std.proofs.Common.{◌≡◌, ℕ, ◌+◌, ◌*◌, ◌<◌, List, ◌++◌, ◌∷◌, length, length-append, take, drop, append_assoc, Some, sym, ap, ◌∙◌, arith}
 use Rattle.std.specs.List.{flat_map}
 use Rattle.std.proofs.lemmas.List.{take_at, drop_at}
 use Rattle.sst_num.specs.Spelling.{fixed}

@@ -1,5 +1,5 @@
 -- What comes next on a walk over the rows of a block is read there.
-use Rattle.std.proofs.Common.{◌≡◌, ℕ, zero, suc, ◌+◌, ◌<◌, ◌≤◌, ◌^◌, List, [], ◌∷◌, ◌++◌, length, length-append, length-drop, take, drop, map, All, Option, Some, None, refl, sym, subst, ap, ◌∙◌, arith}
+use Rattle.std.proofs.Common.{◌≡◌, ℕ, zero, suc, ◌+◌, ◌<◌, ◌≤◌, ◌^◌, List, [], ◌∷◌, ◌++◌, length, length-append, take, drop, Some, None, refl, sym, subst, ap, ◌∙◌, arith}
 use Rattle.std.specs.Prelude.{slice_get}
 use Rattle.std.specs.List.{flat_map}
 use Rattle.std.proofs.Math.Seq.{drop-append_seam}
@@ -9,7 +9,7 @@ use Rattle.std.proofs.lemmas.Grind.{flat_map-append}
 use Rattle.std.proofs.lemmas.Option.{slice_get-map, slice_get_within, get_or_from_slice_get}
 use Rattle.std.specs.Option.{option_map}
 use Rattle.sst_block.specs.declared.row_form.RowForm.{RowForm}
-use Rattle.sst_block.specs.Block.{Row, Spelled, Block, IsRow, SharesFronts, SpellsLengths, common, row_spelling}
+use Rattle.sst_block.specs.Block.{Row, Spelled, Block, IsRow, SharesFronts, SpellsLengths, row_spelling}
 use Rattle.sst_block.specs.BlockReading.{row_at}
 use Rattle.sst_block.proofs.RowAt.{row_at-spelled, row_at-found, value-within}
 use Rattle.sst_block.proofs.Halves.{split-block}

@@ -1,9 +1,9 @@
 -- Each restart of a block is the start of one of its rows, which begins there whole.
-use Rattle.std.proofs.Common.{◌≡◌, ◌⊎◌, inl, inr, ℕ, zero, suc, ◌+◌, ◌-◌, ◌*◌, ◌<◌, ◌≤◌, ◌^◌, ◌==◌, if◌then◌else◌, nat_lt, Bool, true, false, List, [], ◌∷◌, ◌++◌, length, length-append, get_or, take, drop, append_assoc, All, Contains, Option, Some, refl, sym, subst, ap, ◌∙◌, arith}
+use Rattle.std.proofs.Common.{◌≡◌, ◌⊎◌, inl, inr, ℕ, zero, suc, ◌+◌, ◌-◌, ◌*◌, ◌<◌, ◌≤◌, ◌^◌, ◌==◌, if◌then◌else◌, nat_lt, Bool, true, false, List, [], ◌∷◌, ◌++◌, length, length-append, get_or, take, drop, append_assoc, Contains, Option, Some, refl, sym, subst, ap, ◌∙◌, arith}
 use Rattle.std.specs.Prelude.{slice_get}
 use Rattle.std.specs.List.{flat_map}
 use Rattle.std.proofs.Math.Seq.{drop-append_seam, drop-append-add}
-use Rattle.std.proofs.lemmas.Bool.{eqb-true, cases_lt, lt-ltb, le-ltb}
+use Rattle.std.proofs.lemmas.Bool.{eqb-true, lt-ltb}
 use Rattle.std.proofs.lemmas.Option.{slice_get-get_or, none-some, same_Some}
 use Rattle.std.proofs.lemmas.List.Elements.{All-nil, All-cons, All-get_or, All-contains, Contains-append_cases}
 use Rattle.sst_num.specs.Spelling.{fixed}
@@ -12,9 +12,8 @@ use Rattle.sst_num.proofs.Fixed.{length-fixed}
 use Rattle.sst_num.proofs.FixedAt.{fixed_at-fixed}
 use Rattle.sst_block.specs.declared.row_form.RowForm.{RowForm}
 use Rattle.sst_block.specs.declared.iter.BlockIter.{BlockIter}
-use Rattle.sst_block.specs.Block.{Row, Spelled, Block, SharesFronts, AreRestarts, row_spelling, restarts_spelling, fresh_starts}
+use Rattle.sst_block.specs.Block.{Row, Spelled, Block, SharesFronts, AreRestarts, row_spelling, fresh_starts}
 use Rattle.sst_block.specs.Iter.{WalksIn, StaysIn, start_of, restart_at, place_of}
-use Rattle.sst_block.proofs.BlockLaws.{row_spelling-some}
 use Rattle.sst_block.proofs.Steps.{length-restarts}
 use Rattle.sst_block.proofs.NextRow.{Awaits, rows-joined, rows-left, rows-short, length-rows}
 use Rattle.sst_block.proofs.Halves.{restarts-some}

@@ -14,14 +14,14 @@ start-rows-requires c = let r = c.requires.read in (r.0, read-sound Entries c.ar
 pub first-requires : goal.first-requires
 first-requires c =
     let r = c.requires.read in
-    (r.0, None, c.start-rows.ensures r.0 (read-sound Entries c.args.block.now r.0 tt c.requires.short r.1))
+    (r.0, None, c.start-rows.ensures.walks r.0 (read-sound Entries c.args.block.now r.0 tt c.requires.short r.1))
 
 pub loop-row-init : goal.loop-row-init
 loop-row-init c = record {
   added = [];
   appended = sym (append-nil c.args.entries.now.items);
   front = record {
-    walks = λ rows reads many. c.first.ensures.moves rows None (c.start-rows.ensures rows (read-sound Entries c.args.block.now rows tt c.requires.short reads));
+    walks = λ rows reads many. c.first.ensures.moves rows None (c.start-rows.ensures.walks rows (read-sound Entries c.args.block.now rows tt c.requires.short reads));
     copied = λ rows reads many. refl;
     seqs = All-nil HasSeq;
   };

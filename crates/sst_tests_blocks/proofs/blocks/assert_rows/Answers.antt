@@ -7,4 +7,4 @@ start-requires g c = let found = c.in-Ok.ensures.accepts in (found.0, found.1)
 pub assert_walk-requires : goal.assert_walk-requires
 assert_walk-requires g c =
     let found = c.in-Ok.ensures.accepts in
-    (found.0, None, c.start.ensures found.0 found.1)
+    (found.0, None, c.start.ensures.walks found.0 found.1)

@@ -1,4 +1,4 @@
-use Rattle.std.proofs.Common.{length, arith}
+use Rattle.std.proofs.Common.{arith}
 use Rattle.sst_block.proofs.RestartPlaces.{restart-in, restart-low, restart-room}
 use Rattle.sst_block.proofs.iter.BlockIter.at_restart.Goals as goal
 

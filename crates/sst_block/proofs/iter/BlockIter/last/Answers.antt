@@ -1,4 +1,3 @@
-use Rattle.std.proofs.Common.{length, arith}
 use Rattle.sst_block.proofs.RestartPlaces.{last_restart}
 use Rattle.sst_block.proofs.Forward.{last-reaches, last-in, last-none}
 use Rattle.sst_block.proofs.Walking.{walks-of}

@@ -1,4 +1,4 @@
-use Rattle.std.proofs.Common.{ℕ, zero, ◌+◌, ◌-◌, ◌*◌, ◌<◌, ◌≤◌, nat_lt, Some, None, length, refl, sym, subst, arith}
+use Rattle.std.proofs.Common.{ℕ, ◌<◌, Some, refl, sym, subst, arith}
 use Rattle.std.proofs.lemmas.Bool.{lt-ltb}
 use Rattle.sst_block.proofs.RestartPlaces.{restart-room}
 use Rattle.sst_block.proofs.Halves.{restarts-some}

@@ -1,5 +1,5 @@
-use Rattle.std.proofs.Common.{rules, arith, ◌+◌, ◌-◌, ◌<◌, ◌≤◌, ◌/◌, length}
-use Rattle.sst_block.proofs.Back.{Searches, reads-before}
+use Rattle.std.proofs.Common.{arith, ◌+◌, ◌-◌, ◌/◌}
+use Rattle.sst_block.proofs.Back.{reads-before}
 use Rattle.sst_block.proofs.iter.BlockIter.restart_before.Goals as goal
 
 pub loop-high-init : goal.loop-high-init

@@ -1,4 +1,4 @@
-use Rattle.std.proofs.Common.{length, arith}
+use Rattle.std.proofs.Common.{arith}
 use Rattle.sst_block.proofs.Walking.{start-at}
 use Rattle.sst_block.proofs.iter.BlockIter.row_start.Goals as goal
 
