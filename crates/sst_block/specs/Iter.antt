@@ -9,7 +9,7 @@ use Rattle.sst_block.specs.Block.{Row, Spelled, Block, SpellsLengths, row_spelli
 
 -- where the i-th row begins in the block: behind the rows before it
 -- RocksDB: block.h, current_
--- Pinned by: row_start, at_restart.moves, walks_that_go_back
+-- Pinned by: row_start, at_restart.within
 abbrev pub start_of : RowForm → List Spelled → ℕ → ℕ
 start_of form spelled i = length (flat_map (row_spelling form) (take i spelled))
 
@@ -31,7 +31,7 @@ IsAt it form spelled (Some i) = (s : Spelled) × (slice_get spelled i ≡ Some s
 
 -- the walk goes over this block, and stands at the place. Which block it is says more than its rows: how they are
 -- spelled, and which of them are restarts.
--- Pinned by: row_start, restarts, at_restart.moves
+-- Pinned by: row_start, restarts, at_restart.within
 pub record WalksIn (it : BlockIter) (form : RowForm) (bytes : List ℕ) (rows : List Row) (block : Block form bytes rows) (place : Option ℕ) : Type 0 where
   pub rows_are : it.rows.now ≡ flat_map (row_spelling form) block.spelled
   pub places_are : it.places.now ≡ restarts_spelling block.restarts
@@ -55,7 +55,7 @@ place_of rows i = if nat_lt i (length rows) then Some i else None
 
 -- the row before the i-th, or nowhere where there is none
 -- RocksDB: block.cc, Prev
--- Pinned by: prev.moves, walks_that_go_back
+-- Pinned by: prev.moves, prev.within
 abbrev pub place_before : ℕ → Option ℕ
 place_before i = if i == 0 then None else Some (i - 1)
 
