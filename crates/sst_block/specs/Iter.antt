@@ -61,21 +61,25 @@ place_before i = if i == 0 then None else Some (i - 1)
 
 -- how many bytes of the rows come behind the i-th
 -- For proofs alone.
+-- Pinned by: last.moves, prev.moves
 abbrev pub bytes_behind : RowForm → List Spelled → ℕ → ℕ
 bytes_behind form spelled i = length (flat_map (row_spelling form) (drop (i + 1) spelled))
 
 -- the number that stands at the place of the i-th restart
 -- For proofs alone.
+-- Pinned by: at_restart.within
 abbrev pub restart_at : List ℕ → ℕ → Option ℕ
 restart_at places i = fixed_at 4 (drop (4 * i) places)
 
 -- the i-th restart is before the place
 -- For proofs alone.
+-- Pinned by: prev.moves
 abbrev pub BeginsBefore : List ℕ → ℕ → ℕ → Type 0
 BeginsBefore places i place = (restart : ℕ) → restart_at places i ≡ Some restart → restart < place
 
 -- the walk stands at the i-th row, and so many bytes are left behind the j-th, which is the same or a later one
 -- For proofs alone.
+-- Pinned by: last.moves, prev.moves
 pub record Reaches (it : BlockIter) (left : ℕ) : Type 0 where
   pub form : RowForm
   pub bytes : List ℕ
@@ -90,6 +94,7 @@ pub record Reaches (it : BlockIter) (left : ℕ) : Type 0 where
 
 -- a move to the row at the front of the bytes, which takes `used` of them
 -- For proofs alone.
+-- Pinned by: next.moves
 pub record HasTaken (it : BlockIter) (s : Spelled) (used : ℕ) (bytes : List ℕ) : Type 0 where
   pub stands : it.stands ≡ true
   pub key : it.key ≡ s.row.key
@@ -99,6 +104,7 @@ pub record HasTaken (it : BlockIter) (s : Spelled) (used : ℕ) (bytes : List �
 
 -- a move stays in the block
 -- For proofs alone.
+-- Pinned by: next.within
 pub record StaysIn (old new : BlockIter) : Type 0 where
   pub rows : new.rows.now ≡ old.rows.now
   pub places : new.places.now ≡ old.places.now
