@@ -9,7 +9,7 @@ use Rattle.sst_block.specs.Block.{Row, Spelled, Block, SpellsLengths, row_spelli
 
 -- where the i-th row begins in the block: behind the rows before it
 -- RocksDB: block.h, current_
--- Pinned by: row_start, at_restart.within, walks_that_go_back
+-- Pinned by: row_start, at_restart.within
 abbrev pub start_of : RowForm → List Spelled → ℕ → ℕ
 start_of form spelled i = length (flat_map (row_spelling form) (take i spelled))
 
@@ -55,13 +55,13 @@ place_of rows i = if nat_lt i (length rows) then Some i else None
 
 -- the row before the i-th, or nowhere where there is none
 -- RocksDB: block.cc, Prev
--- Pinned by: prev.moves, walks_that_go_back
+-- Pinned by: prev.moves, prev.within
 abbrev pub place_before : ℕ → Option ℕ
 place_before i = if i == 0 then None else Some (i - 1)
 
 -- how many bytes of the rows come behind the i-th
 -- For proofs alone.
--- Pinned by: last.moves
+-- Pinned by: last.moves, prev.moves
 abbrev pub bytes_behind : RowForm → List Spelled → ℕ → ℕ
 bytes_behind form spelled i = length (flat_map (row_spelling form) (drop (i + 1) spelled))
 
@@ -94,7 +94,7 @@ pub record Reaches (it : BlockIter) (left : ℕ) : Type 0 where
 
 -- a move to the row at the front of the bytes, which takes `used` of them
 -- For proofs alone.
--- Pinned by: next.within
+-- Pinned by: next.moves
 pub record HasTaken (it : BlockIter) (s : Spelled) (used : ℕ) (bytes : List ℕ) : Type 0 where
   pub stands : it.stands ≡ true
   pub key : it.key ≡ s.row.key

@@ -51,8 +51,9 @@
 //!   and which of the rows that share nothing are restarts, is free.
 //! - What is read is what the bytes stand for (`Block`, specs/Block.antt), whoever made them
 //!   ([`reading_finds_exactly_the_rows`], [`a_block_has_one_list_of_rows`], [`first_fault_is_first`]).
-//! - [`BlockIter`] goes over the rows of a block that was checked, from the first to the last. A key stays until the next
-//!   move, and a value as long as the block. It takes no memory, and no move fails.
+//! - [`BlockIter`] goes over the rows of a block that was checked, forward and back, and to the row at any restart. It says
+//!   where its row begins. A key stays until the next move, and a value as long as the block. It takes no memory, and no
+//!   move fails.
 //!
 //! A block with a hash part, and index blocks whose separators are user keys or whose handles are differences,
 //! are neither made nor read yet.
