@@ -43,13 +43,17 @@ step-place old new told form bytes rows b place i key after w stays a m =
           let next = next-row form bytes rows b i key after w.spells (omega (arith, within, many)) a in
           let moved = m.some next.s (length (row_spelling form next.s)) next.reads in
           let taken = moved.1 in
-          let at : IsAt new form b.spelled (Some i) = (next.s, next.at, record {
-            stands = taken.stands;
-            key = taken.key;
-            value = taken.value;
-            here = taken.here ∙ next.here;
-            after = taken.after ∙ next.rest;
-          }) in
+          let at : IsAt new form b.spelled (Some i) = (
+            next.s,
+            next.at,
+            record {
+              stands = taken.stands;
+              key = taken.key;
+              value = taken.value;
+              here = taken.here ∙ next.here;
+              after = taken.after ∙ next.rest;
+            },
+          ) in
           rw (lt-ltb i (length rows) within) (stays-in old new form bytes rows b place (Some i) w stays at, moved.0)
       | inr past ↦
           let moved = m.none (none-next form b.spelled i key after w.spells (omega (arith, past, many)) a) in
