@@ -134,6 +134,52 @@ fn sound_blocks(rt: HostRuntime) -> Result<(), Fail> {
     Ok(())
 }
 
+/// The block is sound, and from its last row back it has these rows.
+fn assert_rows_back(
+    rt: &impl Abort,
+    alloc: Global,
+    block: &[u8],
+    form: RowForm,
+    rows: &[(&[u8], &[u8])],
+) -> Result<(), Fail>
+    requires short { length block.now ≤ 2 ^ 29 }
+    requires form { HasNoFlags form }
+{
+    let room = KeyRoom::new(alloc)?;
+    match check_block(alloc, block, form) {
+        Ok(_) => assert_walk_back(rt, BlockIter::start(block, form, room), rows),
+        Err(refused) => panic!(rt; "refused: {refused:?}"),
+    }
+    Ok(())
+}
+
+/// The walk goes back over these rows from the last, and then stands nowhere.
+fn assert_walk_back(rt: &impl Abort, mut walk: BlockIter, rows: &[(&[u8], &[u8])])
+    requires { (has : List Row) × (place : Option ℕ) × Walks walk has place }
+{
+    let mut there = walk.last();
+    for &(key, value) in rows.iter().rev() {
+        if !there {
+            panic!(rt; "no row for {key:?}");
+        }
+        assert_eq!(rt; walk.key(), key);
+        let shown = walk.value();
+        there = walk.prev();
+        assert_eq!(rt; shown, value);
+    }
+    assert!(rt; !there);
+}
+
+// Of the blocks whose restarts are 0 and 8, or 0 and 12, the way back goes over a restart.
+#[test]
+fn walks_that_go_back(rt: HostRuntime) -> Result<(), Fail> {
+    for (block, kind, rows) in SOUND {
+        assert!(rt; block.len() <= 1 << 29);
+        assert_rows_back(&rt, rt.alloc(), block, form_of(kind), rows)?;
+    }
+    Ok(())
+}
+
 // No row; and three names, of which the second shares `app` with the first, and the third is a restart, so it stands
 // whole, at 7 + 6 = 13.
 #[test]

@@ -1,0 +1,10 @@
+use Rattle.std.proofs.Common.{None}
+use Rattle.sst_tests_blocks.proofs.blocks.assert_rows_back.Goals as goal
+
+pub start-requires : goal.start-requires
+start-requires g c = let found = c.in-Ok.ensures.accepts in (found.0, found.1)
+
+pub assert_walk_back-requires : goal.assert_walk_back-requires
+assert_walk_back-requires g c =
+    let found = c.in-Ok.ensures.accepts in
+    (found.0, None, c.start.ensures.walks found.0 found.1)
