@@ -55,7 +55,7 @@ place_of rows i = if nat_lt i (length rows) then Some i else None
 
 -- the row before the i-th, or nowhere where there is none
 -- RocksDB: block.cc, Prev
--- Pinned by: prev.moves, walks_that_go_back
+-- Pinned by: prev.moves, sound_blocks
 abbrev pub place_before : ℕ → Option ℕ
 place_before i = if i == 0 then None else Some (i - 1)
 

@@ -98,10 +98,12 @@ fn assert_rows(
     requires form { HasNoFlags form }
 {
     let room = KeyRoom::new(alloc)?;
+    let other = KeyRoom::new(alloc)?;
     match check_block(alloc, block, form) {
         Ok(count) => {
             assert_eq!(rt; count as usize, rows.len());
             assert_walk(rt, BlockIter::start(block, form, room), rows);
+            assert_walk_back(rt, BlockIter::start(block, form, other), rows);
         }
         Err(refused) => panic!(rt; "refused: {refused:?}"),
     }
@@ -125,34 +127,6 @@ fn assert_walk(rt: &impl Abort, mut walk: BlockIter, rows: &[(&[u8], &[u8])])
     assert!(rt; !there);
 }
 
-#[test]
-fn sound_blocks(rt: HostRuntime) -> Result<(), Fail> {
-    for (block, kind, rows) in SOUND {
-        assert!(rt; block.len() <= 1 << 29);
-        assert_rows(&rt, rt.alloc(), block, form_of(kind), rows)?;
-    }
-    Ok(())
-}
-
-/// The block is sound, and from its last row back it has these rows.
-fn assert_rows_back(
-    rt: &impl Abort,
-    alloc: Global,
-    block: &[u8],
-    form: RowForm,
-    rows: &[(&[u8], &[u8])],
-) -> Result<(), Fail>
-    requires short { length block.now ≤ 2 ^ 29 }
-    requires form { HasNoFlags form }
-{
-    let room = KeyRoom::new(alloc)?;
-    match check_block(alloc, block, form) {
-        Ok(_) => assert_walk_back(rt, BlockIter::start(block, form, room), rows),
-        Err(refused) => panic!(rt; "refused: {refused:?}"),
-    }
-    Ok(())
-}
-
 /// The walk goes back over these rows from the last, and then stands nowhere.
 fn assert_walk_back(rt: &impl Abort, mut walk: BlockIter, rows: &[(&[u8], &[u8])])
     requires { (has : List Row) × (place : Option ℕ) × Walks walk has place }
@@ -172,10 +146,10 @@ fn assert_walk_back(rt: &impl Abort, mut walk: BlockIter, rows: &[(&[u8], &[u8])
 
 // Of the blocks whose restarts are 0 and 8, or 0 and 12, the way back goes over a restart.
 #[test]
-fn walks_that_go_back(rt: HostRuntime) -> Result<(), Fail> {
+fn sound_blocks(rt: HostRuntime) -> Result<(), Fail> {
     for (block, kind, rows) in SOUND {
         assert!(rt; block.len() <= 1 << 29);
-        assert_rows_back(&rt, rt.alloc(), block, form_of(kind), rows)?;
+        assert_rows(&rt, rt.alloc(), block, form_of(kind), rows)?;
     }
     Ok(())
 }

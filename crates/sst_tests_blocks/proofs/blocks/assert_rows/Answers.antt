@@ -8,3 +8,11 @@ pub assert_walk-requires : goal.assert_walk-requires
 assert_walk-requires g c =
     let found = c.in-Ok.ensures.accepts in
     (found.0, None, c.start.ensures.walks found.0 found.1)
+
+pub start-requires-2 : goal.start-requires-2
+start-requires-2 g c = let found = c.in-Ok.ensures.accepts in (found.0, found.1)
+
+pub assert_walk_back-requires : goal.assert_walk_back-requires
+assert_walk_back-requires g c =
+    let found = c.in-Ok.ensures.accepts in
+    (found.0, None, c.start-2.ensures.walks found.0 found.1)
