@@ -9,10 +9,10 @@ assert_walk-requires g c =
     let found = c.in-Ok.ensures.accepts in
     (found.0, None, c.start.ensures.walks found.0 found.1)
 
-pub start-requires-2 : goal.start-requires-2
-start-requires-2 g c = let found = c.in-Ok.ensures.accepts in (found.0, found.1)
+pub start-requires-in-Ok : goal.start-requires-in-Ok
+start-requires-in-Ok g c = let found = c.in-Ok.ensures.accepts in (found.0, found.1)
 
 pub assert_walk_back-requires : goal.assert_walk_back-requires
 assert_walk_back-requires g c =
     let found = c.in-Ok.ensures.accepts in
-    (found.0, None, c.start-2.ensures.walks found.0 found.1)
+    (found.0, None, c.start-in-Ok.ensures.walks found.0 found.1)
