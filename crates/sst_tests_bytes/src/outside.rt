@@ -1,9 +1,10 @@
-//! Tests of the objects outside: each real one once, and what the failing calls of those in memory do.
+//! Tests of the objects outside: the real folder, and what the failing calls of those in memory do. That the real streams are
+//! read and written shows where the program runs: checks/run and tests/real/run.
 //!
 //! Each row of a table is a call, and what it answers. The same loop goes over a real folder and one in memory.
 use sst_device::{
-    DevStop, DiskFolder, Failed, Folder, Intake, MemFolder, MemIntake, MemSink, Sink, StdIntake,
-    StdSink, one_file_changes, put_all,
+    DevStop, DiskFolder, Failed, Folder, Intake, MemFolder, MemIntake, MemSink, Sink,
+    one_file_changes, put_all,
 };
 use sst_num::{Memory, Stop};
 use std::process::Abort;
@@ -120,17 +121,6 @@ fn a_real_folder_keeps_and_discards(rt: HostRuntime) {
         &[Step::Size("other", Err(DevStop::Failed))],
     );
     assert_eq!(rt; folder.failure().is_some(), true);
-}
-
-#[test]
-fn the_real_streams(rt: HostRuntime) {
-    let mut intake = StdIntake::new(&rt);
-    let mut sink = StdSink::new(&rt);
-    let mut buf = [0; 4];
-    assert_eq!(rt; intake.take(&mut buf), Ok(0));
-    assert_eq!(rt; put_all(&mut sink, b"to standard output\n"), Ok(()));
-    assert_eq!(rt; sink.put(b"\n"), Ok(1));
-    assert_eq!(rt; sink.put(b""), Ok(0));
 }
 
 /// Of a folder in memory with the files `one` of eight bytes and `two` of none: the calls that fail; all calls; what files
