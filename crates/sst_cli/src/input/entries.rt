@@ -151,8 +151,8 @@ pub fn add_lines<I: Intake>(
         → (text : List ℕ) → I.left input.old ≡ Some text → IsTakenTo refusal.line text (I.left input.new) }
     ensures faults { CountsFaults (result ≡ Err (InputStop.Device DevStop.Failed)) (I.faults input.old) (I.faults input.new) }
 {
-    let mut lines = LineReader::new(alloc);
     let mut room = EntryRoom::new(alloc);
+    let mut lines = LineReader::new(alloc);
     loop {
         let number = writer.count() + 1;
         match next_line(&mut lines, input, number)? {
