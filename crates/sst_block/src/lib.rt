@@ -55,8 +55,7 @@
 //!   where its row begins. A key stays until the next move, and a value as long as the block. It takes no memory, and no
 //!   move fails.
 //!
-//! A block with a hash part, and index blocks whose separators are user keys or whose handles are differences,
-//! are neither made nor read yet.
+//! A block with a hash part, and index blocks whose handles are differences, are neither made nor read yet.
 #![tactic(auto)]
 
 mod builder;
