@@ -8,3 +8,6 @@ pub mod Stands
 pub mod UpToSeparator
 pub mod WayLaws
 pub mod RowsOf
+pub mod MarkFollows
+pub mod PartLaws
+pub mod PartOrder

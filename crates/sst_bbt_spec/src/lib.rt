@@ -54,8 +54,10 @@
 #![tactic(auto)]
 
 mod laws;
+mod part_laws;
 
 pub use laws::{
     a_file_stands_for_one_list, a_file_that_stands_is_separated, a_key_between_separates,
     a_separated_file_stands, the_way_is_the_lists, what_a_file_stands_for_is_ordered,
 };
+pub use part_laws::{the_tree_decides, the_way_over_parts_is_the_lists};
