@@ -11,3 +11,7 @@ pub mod RowsOf
 pub mod MarkFollows
 pub mod PartLaws
 pub mod PartOrder
+pub mod OnePairs
+pub mod PartsLead
+pub mod StandsInParts
+pub mod WholeIndex
