@@ -15,3 +15,5 @@ pub mod OnePairs
 pub mod PartsLead
 pub mod StandsInParts
 pub mod WholeIndex
+pub mod UserKeys
+pub mod SeparatorsFirst

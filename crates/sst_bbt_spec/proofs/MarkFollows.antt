@@ -54,7 +54,7 @@ all-behind user test goes separator e is low after =
     cc)
 
 -- none of them is
-user-less : (a b user : List ℕ) (r s : ℕ) → UpTo a r b s → slice_cmp nat_cmp b user ≡ Less → slice_cmp nat_cmp a user ≡ Less
+pub user-less : (a b user : List ℕ) (r s : ℕ) → UpTo a r b s → slice_cmp nat_cmp b user ≡ Less → slice_cmp nat_cmp a user ≡ Less
 user-less a b user r s (inl less) next = nat_list_cmp_total.trans a b user less next
 user-less a b user r s (inr tied) next = ap (λ (u : List ℕ). slice_cmp nat_cmp u user) tied.0 ∙ next
 

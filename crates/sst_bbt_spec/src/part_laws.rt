@@ -1,13 +1,18 @@
 //! Laws over the parts of an index: the way of a call, and the list that runs through the parts.
-ghost use Rattle.std.specs.Prelude.{◌≡◌, ℕ, List, [], ◌∷◌, All, Option, None, Some};
+ghost use Rattle.std.specs.Prelude.{◌≡◌, ◌≢◌, ℕ, ◌<◌, Bool, true, List, [], ◌∷◌, slice_get, All, Option, None, Some};
+ghost use Rattle.std.specs.Ordering.{nat_cmp, is_lt};
+ghost use Rattle.std.specs.Cmp.Lexicographic.{slice_cmp};
+ghost use Rattle.std.specs.declared.cmp.Ordering.TheVariants.{Less, Greater};
 ghost use Rattle.sst_key.specs.declared.entries.Entry.{Entry};
 ghost use Rattle.sst_key.specs.declared.calls.Call.{Call};
 ghost use Rattle.sst_key.specs.declared.calls.Format.TheVariants.{Block};
 ghost use Rattle.sst_key.specs.ListMachine.{answer_of, replies};
+ghost use Rattle.sst_key.specs.InternalKey.{internal_cmp};
+ghost use Rattle.sst_block.specs.IndexRows.{IndexPair, IndexRows};
 ghost use Rattle.sst_bbt_spec.specs.Rows.{HasSeq};
-ghost use Rattle.sst_bbt_spec.specs.Way.{way_seek};
-ghost use Rattle.sst_bbt_spec.specs.Parts.{Part, stored_in};
-ghost use Rattle.sst_bbt_spec.specs.Mark.{shown_in};
+ghost use Rattle.sst_bbt_spec.specs.Way.{IsUpToSeparator, IsAfterSeparator, way_seek};
+ghost use Rattle.sst_bbt_spec.specs.Parts.{Part, separator_of, stored_in};
+ghost use Rattle.sst_bbt_spec.specs.Mark.{shown_in, is_before_seek, is_before_prev};
 ghost use Rattle.sst_bbt_spec.specs.PartWay.{answer_in_parts, replies_in_parts, seek_in_parts, seek_for_prev_in_parts, get_in_parts};
 ghost use Rattle.sst_bbt_spec.specs.PartRuns.{SeparateParts};
 ghost use Rattle.sst_bbt_spec.specs.WorkedTrees.{crossed_tree, crossed_blocks, stamped_tree};
@@ -48,4 +53,40 @@ pub fn the_tree_decides()
         × (seek_for_prev_in_parts (Some 5) stamped_tree (98 ∷ []) 5 ≡ Some 1) }
     ensures marked_get { (get_in_parts (Some 5) stamped_tree (97 ∷ []) 5 ≡ Some 0)
         × (get_in_parts (Some 5) stamped_tree (97 ∷ []) 4 ≡ None) }
+{}
+
+/// Separators that are user keys are compared by user keys alone.
+///
+/// `seek` and `prev`: such a separator is before a target where it is less than the target's user key, whatever the sequence
+/// number and the mark. `up_to` and `after`, and back: an entry is up to it or after it by its user key. `tops`: two of them
+/// compare bytewise. `apart`: so no user key has entries on both sides of one.
+/// RocksDB: `index_key_is_user_key` in include/rocksdb/table_properties.h, `IndexBlockIter::CompareBlockKey` in
+/// table/block_based/block.cc.
+pub fn user_keys_are_compared_alone()
+    ensures seek { (mark : Option ℕ) (user : List ℕ) (seq : ℕ) (key : List ℕ)
+        → is_before_seek mark user seq (separator_of true key) ≡ is_lt (slice_cmp nat_cmp key user) }
+    ensures prev { (mark : Option ℕ) (user : List ℕ) (seq : ℕ) (key : List ℕ)
+        → is_before_prev mark user seq (separator_of true key) ≡ is_lt (slice_cmp nat_cmp key user) }
+    ensures up_to { (key : List ℕ) (e : Entry) → IsUpToSeparator (separator_of true key) e → slice_cmp nat_cmp e.user key ≢ Greater }
+    ensures up_to_back { (key : List ℕ) (e : Entry) → slice_cmp nat_cmp e.user key ≢ Greater → IsUpToSeparator (separator_of true key) e }
+    ensures after { (key : List ℕ) (e : Entry) → IsAfterSeparator (separator_of true key) e → slice_cmp nat_cmp key e.user ≡ Less }
+    ensures after_back { (key : List ℕ) (e : Entry) → slice_cmp nat_cmp key e.user ≡ Less → IsAfterSeparator (separator_of true key) e }
+    ensures tops { (a b : List ℕ) → internal_cmp (separator_of true a) (separator_of true b) ≡ slice_cmp nat_cmp a b }
+    ensures apart { (key : List ℕ) (e f : Entry) → IsUpToSeparator (separator_of true key) e
+        → IsAfterSeparator (separator_of true key) f → slice_cmp nat_cmp e.user f.user ≡ Less }
+{}
+
+/// In an index block of any form the separators that are before a target come first: if one is before it, each one ahead
+/// of it is. So the first that isn't is found by halving.
+///
+/// RocksDB: `BlockIter::BinarySeek` and `IndexBlockIter::SeekImpl` in table/block_based/block.cc.
+pub fn separators_before_a_target_come_first()
+    ensures seek { (user_key delta : Bool) (bytes : List ℕ) (pairs : List IndexPair) (mark : Option ℕ) (user : List ℕ) (seq i j : ℕ) (a b : IndexPair)
+        → IndexRows user_key delta bytes pairs → i < j → slice_get pairs i ≡ Some a → slice_get pairs j ≡ Some b
+        → is_before_seek mark user seq (separator_of user_key b.separator) ≡ true
+        → is_before_seek mark user seq (separator_of user_key a.separator) ≡ true }
+    ensures prev { (user_key delta : Bool) (bytes : List ℕ) (pairs : List IndexPair) (mark : Option ℕ) (user : List ℕ) (seq i j : ℕ) (a b : IndexPair)
+        → IndexRows user_key delta bytes pairs → i < j → slice_get pairs i ≡ Some a → slice_get pairs j ≡ Some b
+        → is_before_prev mark user seq (separator_of user_key b.separator) ≡ true
+        → is_before_prev mark user seq (separator_of user_key a.separator) ≡ true }
 {}
