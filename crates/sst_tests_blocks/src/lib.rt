@@ -9,6 +9,7 @@
 //! - [`footers`]: the ends of files.
 //! - [`loading`]: what files say of themselves, and what is wrong with some.
 //! - [`lengths`]: the longest files that are loaded.
+//! - [`index`]: the keys between blocks.
 //! - [`laws`]: the laws of these crates, and of what a file stands for.
 #![tactic(auto)]
 
@@ -16,6 +17,8 @@
 mod blocks;
 #[cfg(test)]
 mod footers;
+#[cfg(test)]
+mod index;
 #[cfg(test)]
 mod laws;
 #[cfg(test)]
