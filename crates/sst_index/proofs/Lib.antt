@@ -1,1 +1,2 @@
 pub mod Separated
+pub mod PairRows

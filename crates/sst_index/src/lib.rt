@@ -35,8 +35,12 @@
 //! which keys are shortened is this project's own.
 #![tactic(auto)]
 
+mod flags;
 mod laws;
 mod separators;
+mod top;
 
-pub use laws::{a_separator_ends, a_separator_separates};
+pub use flags::IndexFlags;
+pub use laws::{a_separator_ends, a_separator_separates, an_index_block_says_its_pairs};
 pub use separators::put_separator;
+pub use top::TopBuilder;
