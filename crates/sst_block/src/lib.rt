@@ -67,7 +67,7 @@ mod laws;
 mod row;
 mod row_form;
 
-pub use builder::BlockBuilder;
+pub use builder::{BlockBuilder, common_front};
 pub use check::check_block;
 pub use fault::BlockFault;
 pub use iter::BlockIter;
