@@ -17,49 +17,50 @@ use Rattle.sst_bbt_spec.specs.Rows.{HasSeq, rows_of}
 use Rattle.sst_bbt_spec.specs.Runs.{LeadsTo, Lead, AreSeparated, Runs}
 use Rattle.sst_bbt_spec.specs.Way.{IndexedBlock, joined}
 use Rattle.sst_bbt_write.specs.Cut.{data_block, entries_in}
-use Rattle.sst_bbt_write.specs.Written.{IsInLimits, Fits, stored_length, data_part, index_row, index_rows}
+use Rattle.sst_bbt_write.specs.Written.{MayBeChosen, IsInLimits, Fits, stored_length, data_part, index_row, index_rows}
 use Rattle.sst_bbt_write.proofs.FullBlocks.{HaveEntries}
 use Rattle.sst_bbt_write.proofs.ListParts.{last_entry, last_key-entry, last_entry-limits, last-before, fits-front, fits-back}
 use Rattle.sst_bbt_write.proofs.Rows.{less-keys, rows_of-forms, rows_of-ordered}
 use Rattle.sst_bbt_write.proofs.IndexRows.{length-data_part, data_block-short}
+use Rattle.sst_bbt_write.specs.declared.bbt_options.BbtOptions.{BbtOptions}
 
 -- a data block with its separator, which is its last key
 abbrev pub indexed : List Entry → IndexedBlock
 indexed block = record { separator = last_key [] (rows_of block); entries = block }
 
 -- a data block stands for its entries
-data_block-is : (entries : List Entry) → Fits entries → Block Entries (data_block entries) (rows_of entries)
-data_block-is entries fits =
-    block_of_is_block Entries 16 (rows_of entries) (omega arith) (rows_of-forms entries fits.limits) (rows_of-ordered entries fits.limits fits.ordered) (data_block-short entries fits)
+data_block-is : (options : BbtOptions) (entries : List Entry) → MayBeChosen options → Fits entries → Block Entries (data_block options entries) (rows_of entries)
+data_block-is options entries chosen fits =
+    block_of_is_block Entries options.restart (rows_of entries) (let least = chosen.restart_least in omega (arith, least)) (rows_of-forms entries fits.limits) (rows_of-ordered entries fits.limits fits.ordered) (data_block-short options entries fits)
 
 -- the index row of a block that stands in a file leads to it
-row-leads : (file front rest : List ℕ) (at end : ℕ) (block : List Entry) → 0 < length block → Fits block → file ≡ front ++ (frame_of (data_block block) ++ rest)
-    → at ≡ length front → at + stored_length (data_block block) ≤ end → LeadsTo file end (index_row at block) block
-row-leads file front rest at end block some fits is place within =
+row-leads : (options : BbtOptions) (file front rest : List ℕ) (at end : ℕ) (block : List Entry) → MayBeChosen options → 0 < length block → Fits block → file ≡ front ++ (frame_of (data_block options block) ++ rest)
+    → at ≡ length front → at + stored_length (data_block options block) ≤ end → LeadsTo file end (index_row options at block) block
+row-leads options file front rest at end block chosen some fits is place within =
     record {
-      handle = record { offset = at; size = length (data_block block) };
-      block = data_block block;
+      handle = record { offset = at; size = length (data_block options block) };
+      block = data_block options block;
       value = refl;
-      framed = framed-at file front (data_block block) rest at end is place (data_block-short block fits) (omega (arith, within));
-      rows = data_block-is block fits;
+      framed = framed-at file front (data_block options block) rest at end is place (data_block-short options block fits) (omega (arith, within));
+      rows = data_block-is options block chosen fits;
       some = some;
       seqs = All-weaker IsInLimits HasSeq (λ x within. within.seq) block fits.limits;
     }
 
 -- so do those of blocks that stand one after the other
-pub rows-lead : (file front tail : List ℕ) (at end : ℕ) (blocks : List (List Entry)) → HaveEntries blocks → Fits (entries_in blocks)
-    → file ≡ front ++ (data_part blocks ++ tail) → at ≡ length front → at + length (data_part blocks) ≤ end
-    → Lead file end (index_rows at blocks) (map indexed blocks)
-rows-lead file front tail at end [] some fits is place within = refl
-rows-lead file front tail at end (block ∷ rest) some fits is place within =
-    let frame = frame_of (data_block block) in
-    let behind = data_part rest ++ tail in
-    let parted : file ≡ front ++ (frame ++ behind) = is ∙ ap (λ (l : List ℕ). front ++ l) (append_assoc frame (data_part rest) tail) in
-    let long = length-data_part block rest in
-    let next : at + stored_length (data_block block) ≡ length (front ++ frame) = omega (arith, place, length-append front frame, length-frame (data_block block)) in (
+pub rows-lead : (options : BbtOptions) (file front tail : List ℕ) (at end : ℕ) (blocks : List (List Entry)) → MayBeChosen options → HaveEntries blocks → Fits (entries_in blocks)
+    → file ≡ front ++ (data_part options blocks ++ tail) → at ≡ length front → at + length (data_part options blocks) ≤ end
+    → Lead file end (index_rows options at blocks) (map indexed blocks)
+rows-lead options file front tail at end [] chosen some fits is place within = refl
+rows-lead options file front tail at end (block ∷ rest) chosen some fits is place within =
+    let frame = frame_of (data_block options block) in
+    let behind = data_part options rest ++ tail in
+    let parted : file ≡ front ++ (frame ++ behind) = is ∙ ap (λ (l : List ℕ). front ++ l) (append_assoc frame (data_part options rest) tail) in
+    let long = length-data_part options block rest in
+    let next : at + stored_length (data_block options block) ≡ length (front ++ frame) = omega (arith, place, length-append front frame, length-frame (data_block options block)) in (
       refl,
-      row-leads file front behind at end block some.0 (fits-front block (entries_in rest) fits) parted place (omega (arith, within, long)),
-      rows-lead file (front ++ frame) tail (at + stored_length (data_block block)) end rest some.1 (fits-back block (entries_in rest) fits)
+      row-leads options file front behind at end block chosen some.0 (fits-front block (entries_in rest) fits) parted place (omega (arith, within, long)),
+      rows-lead options file (front ++ frame) tail (at + stored_length (data_block options block)) end rest chosen some.1 (fits-back block (entries_in rest) fits)
           (parted ∙ sym (append_assoc front frame behind)) next (omega (arith, within, long)),
     )
 

@@ -30,7 +30,7 @@ block-fits w cut entries bytes e kept fits =
 pub block_takes : (w : BbtWriter) (cut : Blocks) (entries : List Entry) (bytes : List ℕ) (e : Entry) (key value : List ℕ) → Keeps w cut entries bytes
     → Fits (entries ++ e ∷ []) → key ≡ key_of e → value ≡ e.value → CanAdd w.block (record { key = key; value = value })
 block_takes w cut entries bytes e key value kept fits key_is value_is =
-    data_takes w.block cut.current e key value kept.block (block-fits w cut entries bytes e kept fits) key_is value_is
+    data_takes w.block w.options.restart cut.current e key value kept.block (block-fits w cut entries bytes e kept fits) key_is value_is
 
 -- keys and values take no more than their entries weigh
 keys-le : (entries : List Entry) → key_bytes entries ≤ weight entries
@@ -75,11 +75,11 @@ entry-space w cut entries bytes e kept fits =
 pub entered_keeps : (w : BbtWriter) (cut : Blocks) (entries : List Entry) (bytes : List ℕ) (e : Entry) (key : List ℕ) (new : BbtWriter)
     → Keeps w cut entries bytes → Fits (entries ++ e ∷ []) → key ≡ key_of e
     → ((form : RowForm) (interval : ℕ) (rows : List Row) → Holds w.block form interval rows → Holds new.block form interval (rows ++ record { key = key; value = e.value } ∷ []))
-    → (new.failed ≡ w.failed) → (new.rows ≡ w.rows + 1) → (new.index ≡ w.index) → (new.blocks ≡ w.blocks) → (new.data_size ≡ w.data_size)
+    → (new.failed ≡ w.failed) → (new.options ≡ w.options) → (new.rows ≡ w.rows + 1) → (new.index ≡ w.index) → (new.blocks ≡ w.blocks) → (new.data_size ≡ w.data_size)
     → (new.last.items ≡ key_of e) → (new.count ≡ w.count + 1) → (new.keys ≡ w.keys + length (key_of e)) → (new.values ≡ w.values + length e.value)
     → (new.weight ≡ w.weight + entry_weight e)
     → Keeps new (with_entry cut e) (entries ++ e ∷ []) bytes
-entered_keeps w cut entries bytes e key new kept fits key_is added failed rows index blocks data_size last count keys values weighs =
+entered_keeps w cut entries bytes e key new kept fits key_is added failed same rows index blocks data_size last count keys values weighs =
     let now = of-entry entries cut e (of-kept w cut entries bytes kept) in
     let w1 = kept.rows in
     let w2 = kept.count in
@@ -88,14 +88,15 @@ entered_keeps w cut entries bytes e key new kept fits key_is added failed rows i
     let w5 = kept.weighs in
     record {
       sound = failed ∙ kept.sound;
+      chosen = rw same kept.chosen;
       joined = now.joined;
       filled = now.filled;
-      block = data-more new.block cut.current e key key_is (added Entries 16 (rows_of cut.current) kept.block);
+      block = rw same (data-more new.block w.options.restart cut.current e key key_is (added Entries w.options.restart (rows_of cut.current) kept.block));
       rows = omega (arith, length-append cut.current (e ∷ []));
-      index = subst (λ (b : BlockBuilder). Holds b (Index false false) 1 (index_rows 0 cut.ended)) (sym index) kept.index;
+      index = rw same (subst (λ (b : BlockBuilder). Holds b (Index false false) w.options.index_restart (index_rows w.options 0 cut.ended)) (sym index) kept.index);
       blocks = blocks ∙ kept.blocks;
       data_size = data_size ∙ kept.data_size;
-      appended = kept.appended;
+      appended = rw same kept.appended;
       last = last ∙ sym (last-more entries e);
       count = omega (arith, length-append entries (e ∷ []));
       keys = omega (arith, sum_by_push (λ (x : Entry). length (key_of x)) entries e);

@@ -12,7 +12,7 @@ use Rattle.sst_bbt_write.specs.declared.properties.Sizes.{Sizes}
 use Rattle.sst_bbt_write.specs.After.{After}
 use Rattle.sst_bbt_write.specs.Cut.{Blocks, cut_of, entries_in}
 use Rattle.sst_bbt_write.specs.Keeps.{HasEntry, Keeps, ended_last, with_room, with_entry}
-use Rattle.sst_bbt_write.specs.Written.{Fits, Written, data_part, index_rows, index_block, sizes_of, end_of, end_part, file_of_blocks, table_of}
+use Rattle.sst_bbt_write.specs.Written.{Fits, MayBeChosen, Written, data_part, index_rows, index_block, sizes_of, end_of, end_part, file_of_blocks, table_of}
 use Rattle.sst_bbt_write.proofs.CutSteps.{cut_of-steps, blocks-last}
 use Rattle.sst_bbt_write.proofs.IndexRoom.{index-room, data_part-le, weight-both}
 use Rattle.sst_bbt_write.proofs.Rows.{Fits-nil}
@@ -30,60 +30,60 @@ kept-some w cut entries bytes kept some = let rows = kept.rows in omega arith
 
 -- so it is when an entry was added in its two steps
 pub after-added : (w : BbtWriter) (options : BbtOptions) (entries : List Entry) (e : Entry) (bytes : List ℕ) → w.options ≡ options
-    → Keeps w (with_entry (with_room options.block_size (cut_of options.block_size entries)) e) (entries ++ e ∷ []) bytes → After w options (entries ++ e ∷ []) bytes
+    → Keeps w (with_entry (with_room options (cut_of options entries)) e) (entries ++ e ∷ []) bytes → After w options (entries ++ e ∷ []) bytes
 after-added w options entries e bytes same kept =
     record {
       chosen = same;
-      keeps = subst (λ (b : Blocks). Keeps w b (entries ++ e ∷ []) bytes) (sym (cut_of-steps options.block_size entries e)) kept;
+      keeps = subst (λ (b : Blocks). Keeps w b (entries ++ e ∷ []) bytes) (sym (cut_of-steps options entries e)) kept;
     }
 
 -- the room that a writer makes is that of its options
-pub room-of : (w : BbtWriter) (options : BbtOptions) (cut : Blocks) → w.options ≡ options → with_room w.options.block_size cut ≡ with_room options.block_size cut
-room-of w options cut same = ap (λ (o : BbtOptions). with_room o.block_size cut) same
+pub room-of : (w : BbtWriter) (options : BbtOptions) (cut : Blocks) → w.options ≡ options → with_room w.options cut ≡ with_room options cut
+room-of w options cut same = ap (λ (o : BbtOptions). with_room o cut) same
 
 -- the numbers of the properties are those of the list
 pub rest-sizes : (w : BbtWriter) (cut : Blocks) (entries : List Entry) (bytes index : List ℕ) (n : ℕ) → Keeps w cut entries bytes
-    → index ≡ index_block cut.ended → n ≡ length index
-    → ◌≡◌ {A = Sizes} (record { data_size = w.data_size; index_size = n + 5; blocks = w.blocks; entries = w.count; keys = w.keys; values = w.values }) (sizes_of cut.ended entries)
+    → index ≡ index_block w.options cut.ended → n ≡ length index
+    → ◌≡◌ {A = Sizes} (record { data_size = w.data_size; index_size = n + 5; blocks = w.blocks; entries = w.count; keys = w.keys; values = w.values }) (sizes_of w.options cut.ended entries)
 rest-sizes w cut entries bytes index n kept index_is long =
     let size = long ∙ ap length index_is in
-    let at : w.data_size ≡ length (data_part cut.ended) = kept.data_size ∙ ap length kept.appended in
+    let at : w.data_size ≡ length (data_part w.options cut.ended) = kept.data_size ∙ ap length kept.appended in
     rw (at, size, kept.blocks, kept.count, kept.keys, kept.values) refl
 
 -- they fit their numbers
 pub rest-room : (w : BbtWriter) (cut : Blocks) (entries : List Entry) (bytes index : List ℕ) (n : ℕ) → Keeps w cut entries bytes
-    → index ≡ index_block cut.ended → n ≡ length index → w.data_size + (n + 5) < 2 ^ 60
+    → index ≡ index_block w.options cut.ended → n ≡ length index → w.data_size + (n + 5) < 2 ^ 60
 rest-room w cut entries bytes index n kept index_is long =
     let size = long ∙ ap length index_is in
-    let at : w.data_size ≡ length (data_part cut.ended) = kept.data_size ∙ ap length kept.appended in
+    let at : w.data_size ≡ length (data_part w.options cut.ended) = kept.data_size ∙ ap length kept.appended in
     let sum = ap weight kept.joined ∙ weight-both (entries_in cut.ended) cut.current in
     let light = kept.fits.light in
-    omega (arith, data_part-le cut.ended kept.filled, index-room 0 cut.ended kept.filled, block_of-le (Index false false) 1 (index_rows 0 cut.ended))
+    omega (arith, data_part-le w.options cut.ended kept.filled, index-room w.options 0 cut.ended kept.filled, block_of-le (Index false false) w.options.index_restart (index_rows w.options 0 cut.ended))
 
 -- what is put behind the data blocks is what stands there
-pub rest-is : (cut : Blocks) (entries : List Entry) (index : List ℕ) (sizes : Sizes) → index ≡ index_block cut.ended → sizes ≡ sizes_of cut.ended entries
-    → end_of index sizes ≡ end_part cut.ended (sizes_of cut.ended entries)
-rest-is cut entries index sizes index_is sizes_are =
-    ap (λ (l : List ℕ). end_of l sizes) index_is ∙ ap (λ (s : Sizes). end_of (index_block cut.ended) s) sizes_are
+pub rest-is : (options : BbtOptions) (cut : Blocks) (entries : List Entry) (index : List ℕ) (sizes : Sizes) → index ≡ index_block options cut.ended → sizes ≡ sizes_of options cut.ended entries
+    → end_of index sizes ≡ end_part options cut.ended (sizes_of options cut.ended entries)
+rest-is options cut entries index sizes index_is sizes_are =
+    ap (λ (l : List ℕ). end_of l sizes) index_is ∙ ap (λ (s : Sizes). end_of (index_block options cut.ended) s) sizes_are
 
 -- the file is then the one of the list
 file-is : (options : BbtOptions) (entries : List Entry) (bytes piece : List ℕ)
-    → bytes ++ piece ≡ data_part (ended_last (cut_of options.block_size entries)).ended
-    → bytes ++ (piece ++ end_part (ended_last (cut_of options.block_size entries)).ended (sizes_of (ended_last (cut_of options.block_size entries)).ended entries))
+    → bytes ++ piece ≡ data_part options (ended_last (cut_of options entries)).ended
+    → bytes ++ (piece ++ end_part options (ended_last (cut_of options entries)).ended (sizes_of options (ended_last (cut_of options entries)).ended entries))
     ≡ table_of options entries
 unfolding table_of
 file-is options entries bytes piece put =
-    let ended = (ended_last (cut_of options.block_size entries)).ended in
-    let rest = end_part ended (sizes_of ended entries) in
+    let ended = (ended_last (cut_of options entries)).ended in
+    let rest = end_part options ended (sizes_of options ended entries) in
     sym (append_assoc bytes piece rest) ∙ ap (λ (l : List ℕ). l ++ rest) put
-    ∙ ap (λ (b : List (List Entry)). file_of_blocks b entries) (blocks-last options.block_size entries)
+    ∙ ap (λ (b : List (List Entry)). file_of_blocks options b entries) (blocks-last options entries)
 
-pub finished : (options : BbtOptions) (entries : List Entry) (bytes piece : List ℕ) → Fits entries
-    → bytes ++ piece ≡ data_part (ended_last (cut_of options.block_size entries)).ended
-    → Written options (bytes ++ (piece ++ end_part (ended_last (cut_of options.block_size entries)).ended (sizes_of (ended_last (cut_of options.block_size entries)).ended entries))) entries
-finished options entries bytes piece fits put =
+pub finished : (options : BbtOptions) (entries : List Entry) (bytes piece : List ℕ) → MayBeChosen options → Fits entries
+    → bytes ++ piece ≡ data_part options (ended_last (cut_of options entries)).ended
+    → Written options (bytes ++ (piece ++ end_part options (ended_last (cut_of options entries)).ended (sizes_of options (ended_last (cut_of options entries)).ended entries))) entries
+finished options entries bytes piece chosen fits put =
     let file = file-is options entries bytes piece put in
-    record { bytes = file; stands = subst (λ (f : List ℕ). BlockBased f entries) (sym file) (stands options entries fits) }
+    record { bytes = file; stands = subst (λ (f : List ℕ). BlockBased f entries) (sym file) (stands options entries chosen fits) }
 
 -- what a writer keeps it keeps with another key at hand
 pub keeps-other : (w new : BbtWriter) (cut : Blocks) (entries : List Entry) (bytes : List ℕ) → Keeps w cut entries bytes
@@ -107,6 +107,7 @@ keeps-other w new cut entries bytes kept same =
     subst (λ (b : BbtWriter). Keeps b cut entries bytes) (sym same)
     (record {
       sound = kept.sound;
+      chosen = kept.chosen;
       joined = kept.joined;
       filled = kept.filled;
       block = kept.block;
@@ -124,14 +125,15 @@ keeps-other w new cut entries bytes kept same =
     })
 
 -- a writer keeps the list of no entry
-pub after-none : (w : BbtWriter) (options : BbtOptions) → w.options ≡ options → w.failed ≡ false → Holds w.block Entries 16 [] → w.rows ≡ 0 → Holds w.index (Index false false) 1 []
+pub after-none : (w : BbtWriter) (options : BbtOptions) → w.options ≡ options → MayBeChosen w.options → w.failed ≡ false → Holds w.block Entries w.options.restart [] → w.rows ≡ 0 → Holds w.index (Index false false) w.options.index_restart []
     → w.blocks ≡ 0 → w.data_size ≡ 0 → w.last.items ≡ [] → w.count ≡ 0 → w.keys ≡ 0 → w.values ≡ 0 → w.weight ≡ 0 → After w options [] []
 unfolding cut_of
-after-none w options chosen sound block rows index blocks data_size last count keys values weighs =
+after-none w options same chosen sound block rows index blocks data_size last count keys values weighs =
     record {
-      chosen = chosen;
+      chosen = same;
       keeps = record {
         sound = sound;
+        chosen = chosen;
         joined = refl;
         filled = All-nil HasEntry;
         block = block;

@@ -1,14 +1,15 @@
 -- A list is cut where blocks are full: joined the blocks are the list, and each ends where it is full and no sooner.
-use Rattle.std.proofs.Common.{◌≡◌, ◌⊎◌, inl, inr, ℕ, ◌<◌, ◌&&◌, nat_lt, Bool, true, false, if◌then◌else◌, List, [], ◌∷◌, ◌++◌, length, IsTrue, refl, sym, ap, ◌∙◌, subst, length-append, append_assoc, arith}
+use Rattle.std.proofs.Common.{◌≡◌, ◌⊎◌, inl, inr, ◌<◌, ◌&&◌, nat_lt, Bool, true, false, if◌then◌else◌, List, [], ◌∷◌, ◌++◌, length, IsTrue, refl, sym, ap, ◌∙◌, subst, length-append, append_assoc, arith}
 use Rattle.std.proofs.lemmas.Bool.{lt-ltb}
 use Rattle.std.proofs.lemmas.List.{append-nil}
 use Rattle.sst_key.specs.declared.entries.Entry.{Entry}
 use Rattle.sst_bbt_write.specs.Cut.{Blocks, is_full, add_entry, cut_from, cut_of, blocks_for, entries_in, IsLean, AreBlocks}
+use Rattle.sst_bbt_write.specs.declared.bbt_options.BbtOptions.{BbtOptions}
 
 -- the blocks are full, and none has an entry more than that takes
-abbrev AreFull : ℕ → List (List Entry) → Type 0
-AreFull limit [] = Unit {0}
-AreFull limit (block ∷ rest) = IsTrue (is_full limit block) × IsLean limit block × AreFull limit rest
+abbrev AreFull : BbtOptions → List (List Entry) → Type 0
+AreFull options [] = Unit {0}
+AreFull options (block ∷ rest) = IsTrue (is_full options block) × IsLean options block × AreFull options rest
 
 -- the first of two truths, where both are true
 first_true : (a b : Bool) → (a && b) ≡ true → a ≡ true
@@ -16,9 +17,9 @@ first_true true b both = refl
 first_true false b both = cc
 
 -- a full block has an entry
-pub full-some : (limit : ℕ) (block : List Entry) → IsTrue (is_full limit block) → 0 < length block
-full-some limit [] full = cc
-full-some limit (e ∷ rest) full = omega arith
+pub full-some : (options : BbtOptions) (block : List Entry) → IsTrue (is_full options block) → 0 < length block
+full-some options [] full = cc
+full-some options (e ∷ rest) full = omega arith
 
 -- a front of a list with one more is a front of the list, or all of it
 front-push : (list : List Entry) (e : Entry) (front back : List Entry) → list ++ e ∷ [] ≡ front ++ back → 0 < length back
@@ -34,21 +35,21 @@ front-push (x ∷ list) e (f ∷ front) back same some =
       | inr (more, is, last) ↦ inr (more, ap (λ (l : List Entry). x ∷ l) is ∙ ap (λ (y : Entry). y ∷ (front ++ more)) head, last)
     ]
 
-lean-nil : (limit : ℕ) → IsLean limit []
-lean-nil limit front back same some full = absurd (omega (arith, ap length same, length-append front back))
+lean-nil : (options : BbtOptions) → IsLean options []
+lean-nil options front back same some full = absurd (omega (arith, ap length same, length-append front back))
 
 -- a block that isn't full takes one more
-lean-push : (limit : ℕ) (block : List Entry) (e : Entry) → IsLean limit block → (IsTrue (is_full limit block) → ⊥) → IsLean limit (block ++ e ∷ [])
-lean-push limit block e lean short front back same some full =
+lean-push : (options : BbtOptions) (block : List Entry) (e : Entry) → IsLean options block → (IsTrue (is_full options block) → ⊥) → IsLean options (block ++ e ∷ [])
+lean-push options block e lean short front back same some full =
     elim (front-push block e front back same some) [
-      | inl all ↦ short (subst (λ (l : List Entry). IsTrue (is_full limit l)) all full)
+      | inl all ↦ short (subst (λ (l : List Entry). IsTrue (is_full options l)) all full)
       | inr (more, is, last) ↦ lean front more is last full
     ]
 
-full-push : (limit : ℕ) (blocks : List (List Entry)) (block : List Entry) → AreFull limit blocks → IsTrue (is_full limit block) → IsLean limit block
-    → AreFull limit (blocks ++ block ∷ [])
-full-push limit [] block are full lean = (full, lean, tt)
-full-push limit (b ∷ rest) block are full lean = (are.0, are.1, full-push limit rest block are.2 full lean)
+full-push : (options : BbtOptions) (blocks : List (List Entry)) (block : List Entry) → AreFull options blocks → IsTrue (is_full options block) → IsLean options block
+    → AreFull options (blocks ++ block ∷ [])
+full-push options [] block are full lean = (full, lean, tt)
+full-push options (b ∷ rest) block are full lean = (are.0, are.1, full-push options rest block are.2 full lean)
 
 entries_in-append : (blocks more : List (List Entry)) → entries_in (blocks ++ more) ≡ entries_in blocks ++ entries_in more
 entries_in-append [] more = refl
@@ -58,40 +59,40 @@ entries_in-push : (blocks : List (List Entry)) (block : List Entry) → entries_
 entries_in-push blocks block = entries_in-append blocks (block ∷ []) ∙ ap (λ (l : List Entry). entries_in blocks ++ l) (append-nil block)
 
 -- what was cut of a list so far
-record IsCut (limit : ℕ) (blocks : Blocks) (entries : List Entry) : Type 0 where
-  pub full : AreFull limit blocks.ended
-  pub lean : IsLean limit blocks.current
+record IsCut (options : BbtOptions) (blocks : Blocks) (entries : List Entry) : Type 0 where
+  pub full : AreFull options blocks.ended
+  pub lean : IsLean options blocks.current
   pub all : entries_in blocks.ended ++ blocks.current ≡ entries
 
 -- one entry more
-cut-step : (limit : ℕ) (ended : List (List Entry)) (current entries : List Entry) (e : Entry)
-    → IsCut limit (record { ended = ended; current = current }) entries
-    → IsCut limit (add_entry limit (record { ended = ended; current = current }) e) (entries ++ e ∷ [])
-cut-step limit ended current entries e cut =
-    elim (is_full limit current) as (λ (t : Bool). is_full limit current ≡ t
-    → IsCut limit (if t then record { ended = ended ++ current ∷ []; current = e ∷ [] } else record { ended = ended; current = current ++ e ∷ [] }) (entries ++ e ∷ [])) [
+cut-step : (options : BbtOptions) (ended : List (List Entry)) (current entries : List Entry) (e : Entry)
+    → IsCut options (record { ended = ended; current = current }) entries
+    → IsCut options (add_entry options (record { ended = ended; current = current }) e) (entries ++ e ∷ [])
+cut-step options ended current entries e cut =
+    elim (is_full options current) as (λ (t : Bool). is_full options current ≡ t
+    → IsCut options (if t then record { ended = ended ++ current ∷ []; current = e ∷ [] } else record { ended = ended; current = current ++ e ∷ [] }) (entries ++ e ∷ [])) [
       | true ↦ λ is. record {
-        full = full-push limit ended current cut.full is cut.lean;
-        lean = lean-push limit [] e (lean-nil limit) (λ none. cc);
+        full = full-push options ended current cut.full is cut.lean;
+        lean = lean-push options [] e (lean-nil options) (λ none. cc);
         all = ap (λ (l : List Entry). l ++ e ∷ []) (entries_in-push ended current ∙ cut.all);
       }
       | false ↦ λ is. record {
         full = cut.full;
-        lean = lean-push limit current e cut.lean (λ full. cc);
+        lean = lean-push options current e cut.lean (λ full. cc);
         all = sym (append_assoc (entries_in ended) current (e ∷ [])) ∙ ap (λ (l : List Entry). l ++ e ∷ []) cut.all;
       }
     ] refl
 
 -- and all that follow
-cut-all : (limit : ℕ) (blocks : Blocks) (before rest : List Entry) → IsCut limit blocks before → IsCut limit (cut_from limit blocks rest) (before ++ rest)
-cut-all limit blocks before [] cut = subst (λ (l : List Entry). IsCut limit blocks l) (sym (append-nil before)) cut
-cut-all limit blocks before (e ∷ rest) cut =
-    subst (λ (l : List Entry). IsCut limit (cut_from limit (add_entry limit blocks e) rest) l) (append_assoc before (e ∷ []) rest)
-    (cut-all limit (add_entry limit blocks e) (before ++ e ∷ []) rest (cut-step limit blocks.ended blocks.current before e cut))
+cut-all : (options : BbtOptions) (blocks : Blocks) (before rest : List Entry) → IsCut options blocks before → IsCut options (cut_from options blocks rest) (before ++ rest)
+cut-all options blocks before [] cut = subst (λ (l : List Entry). IsCut options blocks l) (sym (append-nil before)) cut
+cut-all options blocks before (e ∷ rest) cut =
+    subst (λ (l : List Entry). IsCut options (cut_from options (add_entry options blocks e) rest) l) (append_assoc before (e ∷ []) rest)
+    (cut-all options (add_entry options blocks e) (before ++ e ∷ []) rest (cut-step options blocks.ended blocks.current before e cut))
 
-cut-list : (limit : ℕ) (entries : List Entry) → IsCut limit (cut_of limit entries) entries
+cut-list : (options : BbtOptions) (entries : List Entry) → IsCut options (cut_of options entries) entries
 unfolding cut_of
-cut-list limit entries = cut-all limit (record { ended = []; current = [] }) [] entries (record { full = tt; lean = lean-nil limit; all = refl })
+cut-list options entries = cut-all options (record { ended = []; current = [] }) [] entries (record { full = tt; lean = lean-nil options; all = refl })
 
 -- the last block, if it has an entry
 abbrev last_block : List Entry → List (List Entry)
@@ -101,42 +102,42 @@ last_block-entries : (current : List Entry) → entries_in (last_block current) 
 last_block-entries [] = refl
 last_block-entries (e ∷ rest) = rw (lt-ltb 0 (length (e ∷ rest)) (omega arith)) (append-nil (e ∷ rest))
 
-last_block-are : (limit : ℕ) (current : List Entry) → IsLean limit current → AreBlocks limit (last_block current)
-last_block-are limit [] lean = tt
-last_block-are limit (e ∷ rest) lean = rw (lt-ltb 0 (length (e ∷ rest)) (omega arith)) (omega arith, lean)
+last_block-are : (options : BbtOptions) (current : List Entry) → IsLean options current → AreBlocks options (last_block current)
+last_block-are options [] lean = tt
+last_block-are options (e ∷ rest) lean = rw (lt-ltb 0 (length (e ∷ rest)) (omega arith)) (omega arith, lean)
 
 -- full blocks, and blocks behind them
-blocks-joined : (limit : ℕ) (ended more : List (List Entry)) → AreFull limit ended → AreBlocks limit more → AreBlocks limit (ended ++ more)
-blocks-joined limit [] more full are = are
-blocks-joined limit (b ∷ []) [] full are = (full-some limit b full.0, full.1)
-blocks-joined limit (b ∷ []) (m ∷ more) full are = (full.0, full.1, are)
-blocks-joined limit (b ∷ next ∷ rest) more full are = (full.0, full.1, blocks-joined limit (next ∷ rest) more full.2 are)
+blocks-joined : (options : BbtOptions) (ended more : List (List Entry)) → AreFull options ended → AreBlocks options more → AreBlocks options (ended ++ more)
+blocks-joined options [] more full are = are
+blocks-joined options (b ∷ []) [] full are = (full-some options b full.0, full.1)
+blocks-joined options (b ∷ []) (m ∷ more) full are = (full.0, full.1, are)
+blocks-joined options (b ∷ next ∷ rest) more full are = (full.0, full.1, blocks-joined options (next ∷ rest) more full.2 are)
 
 -- the blocks of a list, joined, are the list
-pub blocks_for-entries : (limit : ℕ) (entries : List Entry) → entries_in (blocks_for limit entries) ≡ entries
+pub blocks_for-entries : (options : BbtOptions) (entries : List Entry) → entries_in (blocks_for options entries) ≡ entries
 unfolding blocks_for
-blocks_for-entries limit entries =
-    let blocks = cut_of limit entries in
+blocks_for-entries options entries =
+    let blocks = cut_of options entries in
     entries_in-append blocks.ended (last_block blocks.current)
-    ∙ ap (λ (l : List Entry). entries_in blocks.ended ++ l) (last_block-entries blocks.current) ∙ (cut-list limit entries).all
+    ∙ ap (λ (l : List Entry). entries_in blocks.ended ++ l) (last_block-entries blocks.current) ∙ (cut-list options entries).all
 
 -- each ends where it is full and no sooner
-pub blocks_for-full : (limit : ℕ) (entries : List Entry) → AreBlocks limit (blocks_for limit entries)
+pub blocks_for-full : (options : BbtOptions) (entries : List Entry) → AreBlocks options (blocks_for options entries)
 unfolding blocks_for
-blocks_for-full limit entries =
-    let blocks = cut_of limit entries in
-    let cut = cut-list limit entries in
-    blocks-joined limit blocks.ended (last_block blocks.current) cut.full (last_block-are limit blocks.current cut.lean)
+blocks_for-full options entries =
+    let blocks = cut_of options entries in
+    let cut = cut-list options entries in
+    blocks-joined options blocks.ended (last_block blocks.current) cut.full (last_block-are options blocks.current cut.lean)
 
 -- each of some blocks has an entry
 abbrev pub HaveEntries : List (List Entry) → Type 0
 HaveEntries [] = Unit {0}
 HaveEntries (block ∷ rest) = (0 < length block) × HaveEntries rest
 
-blocks-some : (limit : ℕ) (blocks : List (List Entry)) → AreBlocks limit blocks → HaveEntries blocks
-blocks-some limit [] are = tt
-blocks-some limit (b ∷ []) are = (are.0, tt)
-blocks-some limit (b ∷ next ∷ rest) are = (full-some limit b are.0, blocks-some limit (next ∷ rest) are.2)
+blocks-some : (options : BbtOptions) (blocks : List (List Entry)) → AreBlocks options blocks → HaveEntries blocks
+blocks-some options [] are = tt
+blocks-some options (b ∷ []) are = (are.0, tt)
+blocks-some options (b ∷ next ∷ rest) are = (full-some options b are.0, blocks-some options (next ∷ rest) are.2)
 
-pub blocks_for-some : (limit : ℕ) (entries : List Entry) → HaveEntries (blocks_for limit entries)
-blocks_for-some limit entries = blocks-some limit (blocks_for limit entries) (blocks_for-full limit entries)
+pub blocks_for-some : (options : BbtOptions) (entries : List Entry) → HaveEntries (blocks_for options entries)
+blocks_for-some options entries = blocks-some options (blocks_for options entries) (blocks_for-full options entries)

@@ -24,6 +24,7 @@ use Rattle.sst_bbt_write.specs.Written.{IsInLimits, data_part, index_row, index_
 use Rattle.sst_bbt_spec.proofs.Separating.{ordered-back}
 use Rattle.sst_bbt_spec.proofs.RowsOf.{length-key_of}
 use Rattle.sst_bbt_write.proofs.Rows.{less-keys, rows_of-room}
+use Rattle.sst_bbt_write.specs.declared.bbt_options.BbtOptions.{BbtOptions}
 
 -- an entry before a list is before the last of it
 before-last : (x e : Entry) (rest more : List Entry) → IsBefore x e → IsOrdered (e ∷ (rest ++ more)) → IsInLimits x → All IsInLimits (e ∷ (rest ++ more))
@@ -42,17 +43,17 @@ block-before x (y ∷ rest) e next more ordered limits =
     block-before y rest e next more ordered.1 (All-tail IsInLimits x (y ∷ (rest ++ (e ∷ (next ++ more)))) limits)
 
 -- the index rows of an ordered list are in order
-pub index-ordered : (at : ℕ) (blocks : List (List Entry)) → All HasEntry blocks → IsOrdered (entries_in blocks) → All IsInLimits (entries_in blocks)
-    → AreOrdered (Index false false) (index_rows at blocks)
-index-ordered at [] filled ordered limits = tt
-index-ordered at (block ∷ []) filled ordered limits = tt
-index-ordered at ([] ∷ next ∷ rest) filled ordered limits = let some = All-head HasEntry [] (next ∷ rest) filled in absurd (omega arith)
-index-ordered at ((x ∷ block) ∷ [] ∷ rest) filled ordered limits =
+pub index-ordered : (options : BbtOptions) (at : ℕ) (blocks : List (List Entry)) → All HasEntry blocks → IsOrdered (entries_in blocks) → All IsInLimits (entries_in blocks)
+    → AreOrdered (Index false false) (index_rows options at blocks)
+index-ordered options at [] filled ordered limits = tt
+index-ordered options at (block ∷ []) filled ordered limits = tt
+index-ordered options at ([] ∷ next ∷ rest) filled ordered limits = let some = All-head HasEntry [] (next ∷ rest) filled in absurd (omega arith)
+index-ordered options at ((x ∷ block) ∷ [] ∷ rest) filled ordered limits =
     let some = All-head HasEntry [] rest (All-tail HasEntry (x ∷ block) ([] ∷ rest) filled) in absurd (omega arith)
-index-ordered at ((x ∷ block) ∷ (e ∷ next) ∷ rest) filled ordered limits =
+index-ordered options at ((x ∷ block) ∷ (e ∷ next) ∷ rest) filled ordered limits =
     let all = entries_in ((e ∷ next) ∷ rest) in (
       block-before x block e next (entries_in rest) ordered limits,
-      index-ordered (at + stored_length (data_block (x ∷ block))) ((e ∷ next) ∷ rest) (All-tail HasEntry (x ∷ block) ((e ∷ next) ∷ rest) filled)
+      index-ordered options (at + stored_length (data_block options (x ∷ block))) ((e ∷ next) ∷ rest) (All-tail HasEntry (x ∷ block) ((e ∷ next) ∷ rest) filled)
           (ordered-back (x ∷ block) all ordered) (All-back IsInLimits (x ∷ block) all limits),
     )
 
@@ -61,58 +62,58 @@ last-weight : (before : List ℕ) (e : Entry) (rest : List Entry) → length (la
 last-weight before e [] = omega (arith, length-key_of e, sum_by-cons entry_weight e [])
 last-weight before e (next ∷ rest) = omega (arith, last-weight (key_of e) next rest, sum_by-cons entry_weight e (next ∷ rest))
 
-row-weight : (at : ℕ) (block : List Entry) → 0 < length block → row_room (index_row at block) ≤ weight block
-row-weight at [] some = absurd (omega arith)
-row-weight at (e ∷ rest) some =
-    omega (arith, last-weight [] e rest, length-handle (record { offset = at; size = length (data_block (e ∷ rest)) }))
+row-weight : (options : BbtOptions) (at : ℕ) (block : List Entry) → 0 < length block → row_room (index_row options at block) ≤ weight block
+row-weight options at [] some = absurd (omega arith)
+row-weight options at (e ∷ rest) some =
+    omega (arith, last-weight [] e rest, length-handle (record { offset = at; size = length (data_block options (e ∷ rest)) }))
 
 pub weight-both : (front back : List Entry) → weight (front ++ back) ≡ weight front + weight back
 weight-both front back = sum_by-append entry_weight front back
 
 -- the index rows take no more than their entries weigh
-pub index-room : (at : ℕ) (blocks : List (List Entry)) → All HasEntry blocks → sum_by row_room (index_rows at blocks) ≤ weight (entries_in blocks)
-index-room at [] filled = omega arith
-index-room at (block ∷ rest) filled =
-    let here = row-weight at block (All-head HasEntry block rest filled) in
-    let more = index-room (at + stored_length (data_block block)) rest (All-tail HasEntry block rest filled) in
-    omega (arith, here, more, weight-both block (entries_in rest), sum_by-cons row_room (index_row at block) (index_rows (at + stored_length (data_block block)) rest))
+pub index-room : (options : BbtOptions) (at : ℕ) (blocks : List (List Entry)) → All HasEntry blocks → sum_by row_room (index_rows options at blocks) ≤ weight (entries_in blocks)
+index-room options at [] filled = omega arith
+index-room options at (block ∷ rest) filled =
+    let here = row-weight options at block (All-head HasEntry block rest filled) in
+    let more = index-room options (at + stored_length (data_block options block)) rest (All-tail HasEntry block rest filled) in
+    omega (arith, here, more, weight-both block (entries_in rest), sum_by-cons row_room (index_row options at block) (index_rows options (at + stored_length (data_block options block)) rest))
 
 -- one data block more
-pub data_part-more : (blocks : List (List Entry)) (block : List Entry) → data_part (blocks ++ block ∷ []) ≡ data_part blocks ++ frame_of (data_block block)
-data_part-more blocks block =
-    flat_map-append (λ (b : List Entry). frame_of (data_block b)) blocks (block ∷ []) ∙ ap (λ (l : List ℕ). data_part blocks ++ l) (append-nil (frame_of (data_block block)))
+pub data_part-more : (options : BbtOptions) (blocks : List (List Entry)) (block : List Entry) → data_part options (blocks ++ block ∷ []) ≡ data_part options blocks ++ frame_of (data_block options block)
+data_part-more options blocks block =
+    flat_map-append (λ (b : List Entry). frame_of (data_block options b)) blocks (block ∷ []) ∙ ap (λ (l : List ℕ). data_part options blocks ++ l) (append-nil (frame_of (data_block options block)))
 
 -- and its index row
-index_rows-from : (at : ℕ) (blocks : List (List Entry)) (block : List Entry)
-    → index_rows at (blocks ++ block ∷ []) ≡ index_rows at blocks ++ index_row (at + length (data_part blocks)) block ∷ []
-index_rows-from at [] block = let none : at + 0 ≡ at = omega arith in rw none refl
-index_rows-from at (first ∷ rest) block =
-    let next = at + stored_length (data_block first) in
-    let size : next + length (data_part rest) ≡ at + length (data_part (first ∷ rest)) =
-    omega (arith, length-append (frame_of (data_block first)) (data_part rest), length-frame (data_block first)) in
-    ap (λ (rows : List Row). index_row at first ∷ rows) (index_rows-from next rest block ∙ ap (λ (k : ℕ). index_rows next rest ++ index_row k block ∷ []) size)
+index_rows-from : (options : BbtOptions) (at : ℕ) (blocks : List (List Entry)) (block : List Entry)
+    → index_rows options at (blocks ++ block ∷ []) ≡ index_rows options at blocks ++ index_row options (at + length (data_part options blocks)) block ∷ []
+index_rows-from options at [] block = let none : at + 0 ≡ at = omega arith in rw none refl
+index_rows-from options at (first ∷ rest) block =
+    let next = at + stored_length (data_block options first) in
+    let size : next + length (data_part options rest) ≡ at + length (data_part options (first ∷ rest)) =
+    omega (arith, length-append (frame_of (data_block options first)) (data_part options rest), length-frame (data_block options first)) in
+    ap (λ (rows : List Row). index_row options at first ∷ rows) (index_rows-from options next rest block ∙ ap (λ (k : ℕ). index_rows options next rest ++ index_row options k block ∷ []) size)
 
-pub index_rows-more : (blocks : List (List Entry)) (block : List Entry)
-    → index_rows 0 (blocks ++ block ∷ []) ≡ index_rows 0 blocks ++ index_row (length (data_part blocks)) block ∷ []
-index_rows-more blocks block =
-    let none : 0 + length (data_part blocks) ≡ length (data_part blocks) = omega arith in
-    index_rows-from 0 blocks block ∙ ap (λ (k : ℕ). index_rows 0 blocks ++ index_row k block ∷ []) none
+pub index_rows-more : (options : BbtOptions) (blocks : List (List Entry)) (block : List Entry)
+    → index_rows options 0 (blocks ++ block ∷ []) ≡ index_rows options 0 blocks ++ index_row options (length (data_part options blocks)) block ∷ []
+index_rows-more options blocks block =
+    let none : 0 + length (data_part options blocks) ≡ length (data_part options blocks) = omega arith in
+    index_rows-from options 0 blocks block ∙ ap (λ (k : ℕ). index_rows options 0 blocks ++ index_row options k block ∷ []) none
 
 -- a data block takes no more than it weighs, and eight bytes
-pub data-le : (block : List Entry) → length (data_block block) ≤ weight block + 8
-data-le block = omega (arith, block_of-le Entries 16 (rows_of block), rows_of-room block)
+pub data-le : (options : BbtOptions) (block : List Entry) → length (data_block options block) ≤ weight block + 8
+data-le options block = omega (arith, block_of-le Entries options.restart (rows_of block), rows_of-room block)
 
 some-weight : (block : List Entry) → 0 < length block → 64 ≤ weight block
 some-weight [] some = absurd (omega arith)
 some-weight (e ∷ rest) some = omega (arith, sum_by-cons entry_weight e rest)
 
 -- the stored data blocks take at most twice what their entries weigh
-pub data_part-le : (blocks : List (List Entry)) → All HasEntry blocks → length (data_part blocks) ≤ 2 * weight (entries_in blocks)
-data_part-le [] filled = omega arith
-data_part-le (block ∷ rest) filled =
-    let more = data_part-le rest (All-tail HasEntry block rest filled) in
+pub data_part-le : (options : BbtOptions) (blocks : List (List Entry)) → All HasEntry blocks → length (data_part options blocks) ≤ 2 * weight (entries_in blocks)
+data_part-le options [] filled = omega arith
+data_part-le options (block ∷ rest) filled =
+    let more = data_part-le options rest (All-tail HasEntry block rest filled) in
     let here = some-weight block (All-head HasEntry block rest filled) in
-    omega (arith, more, here, data-le block, length-frame (data_block block), weight-both block (entries_in rest), length-append (frame_of (data_block block)) (data_part rest))
+    omega (arith, more, here, data-le options block, length-frame (data_block options block), weight-both block (entries_in rest), length-append (frame_of (data_block options block)) (data_part options rest))
 
 -- so many blocks weigh so much
 pub blocks-few : (blocks : List (List Entry)) → All HasEntry blocks → length blocks ≤ weight (entries_in blocks)

@@ -65,8 +65,8 @@ rows_of-room [] = omega arith
 rows_of-room (e ∷ rest) =
     omega (arith, rows_of-room rest, length-key_of e, sum_by-cons row_room (row_of e) (rows_of rest), sum_by-cons entry_weight e rest)
 
-pub rows_of-short : (entries : List Entry) → weight entries ≤ 2 ^ 28 → length (block_of Entries 16 (rows_of entries)) < 2 ^ 29
-rows_of-short entries light = omega (arith, block_of-le Entries 16 (rows_of entries), rows_of-room entries, light)
+pub rows_of-short : (interval : ℕ) (entries : List Entry) → weight entries ≤ 2 ^ 28 → length (block_of Entries interval (rows_of entries)) < 2 ^ 29
+rows_of-short interval entries light = omega (arith, block_of-le Entries interval (rows_of entries), rows_of-room entries, light)
 
 pub weight-append : (entries : List Entry) (e : Entry) → weight (entries ++ e ∷ []) ≡ weight entries + entry_weight e
 weight-append entries e = sum_by_push entry_weight entries e

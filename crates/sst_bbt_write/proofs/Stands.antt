@@ -9,7 +9,7 @@ use Rattle.sst_meta.proofs.PutLoads.{front-within, file_with-le, put-meta}
 use Rattle.sst_bbt_spec.specs.Runs.{Runs}
 use Rattle.sst_bbt_spec.specs.BlockBased.{Opens, BlockBased}
 use Rattle.sst_bbt_write.specs.Cut.{blocks_for, entries_in}
-use Rattle.sst_bbt_write.specs.Written.{Fits, Written, data_part, index_rows, index_block, index_place, properties, end_of, sizes_of, file_of_blocks, table_of}
+use Rattle.sst_bbt_write.specs.Written.{MayBeChosen, Fits, Written, data_part, index_rows, index_block, index_place, properties, end_of, sizes_of, file_of_blocks, table_of}
 use Rattle.sst_bbt_write.specs.declared.bbt_options.BbtOptions.{BbtOptions}
 use Rattle.sst_bbt_write.specs.declared.properties.Sizes.{Sizes}
 use Rattle.sst_bbt_write.proofs.FullBlocks.{HaveEntries, blocks_for-entries, blocks_for-some}
@@ -35,22 +35,22 @@ end-put stored index sizes first second =
     sym (append_assoc stored (frame_of index) (ending_of (sizes.data_size + sizes.index_size) 2 at (properties sizes)))
     ∙ ap (λ (n : ℕ). front_of stored index ++ ending_of n 2 at (properties sizes)) place
 
-data_part-short : (blocks : List (List Entry)) → HaveEntries blocks → Fits (entries_in blocks) → length (data_part blocks) ≤ 2 ^ 29
-data_part-short blocks some fits = omega (arith, data_part-le blocks (filled blocks some), fits.light)
+data_part-short : (options : BbtOptions) (blocks : List (List Entry)) → HaveEntries blocks → Fits (entries_in blocks) → length (data_part options blocks) ≤ 2 ^ 29
+data_part-short options blocks some fits = omega (arith, data_part-le options blocks (filled blocks some), fits.light)
 
 -- the file of a list that was cut into blocks opens to these
-blocks-open : (blocks : List (List Entry)) (sizes : Sizes) → HaveEntries blocks → Fits (entries_in blocks) → sizes.data_size ≡ length (data_part blocks)
-    → Opens (file_with (front_of (data_part blocks) (index_block blocks)) 2 (index_place (index_block blocks) sizes) (properties sizes)) (map indexed blocks)
-blocks-open blocks sizes some fits first =
-    let stored = data_part blocks in
-    let index = index_block blocks in
+blocks-open : (options : BbtOptions) (blocks : List (List Entry)) (sizes : Sizes) → MayBeChosen options → HaveEntries blocks → Fits (entries_in blocks) → sizes.data_size ≡ length (data_part options blocks)
+    → Opens (file_with (front_of (data_part options blocks) (index_block options blocks)) 2 (index_place (index_block options blocks) sizes) (properties sizes)) (map indexed blocks)
+blocks-open options blocks sizes chosen some fits first =
+    let stored = data_part options blocks in
+    let index = index_block options blocks in
     let at = index_place index sizes in
     let front = front_of stored index in
     let file = file_with front 2 at (properties sizes) in
     let rest = ending_of (length front) 2 at (properties sizes) in
     let parted : file ≡ stored ++ (frame_of index ++ rest) = append_assoc stored (frame_of index) rest in
-    let stored_short = data_part-short blocks some fits in
-    let small : length index ≤ 2 ^ 29 = omega (arith, index_block-short blocks some fits) in
+    let stored_short = data_part-short options blocks some fits in
+    let small : length index ≤ 2 ^ 29 = omega (arith, index_block-short options blocks some fits) in
     let long = length-front stored index in
     let within = front-within front 2 at (properties sizes) in
     let whole = file_with-le front 2 at (properties sizes) in
@@ -60,29 +60,29 @@ blocks-open blocks sizes some fits first =
       meta = put-meta front 2 at (properties sizes) (omega arith, omega arith) (omega (arith, first, stored_short), omega (arith, small)) (properties-are sizes)
           (omega (arith, whole, long, props, stored_short, small));
       index_block = index;
-      index_rows = index_rows 0 blocks;
+      index_rows = index_rows options 0 blocks;
       framed = framed-at file stored index rest sizes.data_size (footer_start file) parted first small (omega (arith, first, long, within));
-      index_is = index_block-is blocks some fits;
-      lead = rows-lead file [] (frame_of index ++ rest) 0 (footer_start file) blocks some fits parted refl (omega (arith, long, within));
+      index_is = index_block-is options blocks chosen some fits;
+      lead = rows-lead options file [] (frame_of index ++ rest) 0 (footer_start file) blocks chosen some fits parted refl (omega (arith, long, within));
     }
 
 -- and it stands for their entries
-blocks-stand : (blocks : List (List Entry)) (entries : List Entry) → HaveEntries blocks → Fits entries → entries_in blocks ≡ entries
-    → BlockBased (file_of_blocks blocks entries) entries
-blocks-stand blocks entries some fits is =
+blocks-stand : (options : BbtOptions) (blocks : List (List Entry)) (entries : List Entry) → MayBeChosen options → HaveEntries blocks → Fits entries → entries_in blocks ≡ entries
+    → BlockBased (file_of_blocks options blocks entries) entries
+blocks-stand options blocks entries chosen some fits is =
     let within : Fits (entries_in blocks) = subst Fits (sym is) fits in
-    let sizes = sizes_of blocks entries in
+    let sizes = sizes_of options blocks entries in
     record {
       blocks = map indexed blocks;
-      opens = subst (λ (f : List ℕ). Opens f (map indexed blocks)) (sym (end-put (data_part blocks) (index_block blocks) sizes refl refl))
-          (blocks-open blocks sizes some within refl);
+      opens = subst (λ (f : List ℕ). Opens f (map indexed blocks)) (sym (end-put (data_part options blocks) (index_block options blocks) sizes refl refl))
+          (blocks-open options blocks sizes chosen some within refl);
       runs = subst (λ (l : List Entry). Runs (map indexed blocks) l) is (entries-run blocks some within);
     }
 
-pub stands : (options : BbtOptions) (entries : List Entry) → Fits entries → BlockBased (table_of options entries) entries
+pub stands : (options : BbtOptions) (entries : List Entry) → MayBeChosen options → Fits entries → BlockBased (table_of options entries) entries
 unfolding table_of
-stands options entries fits =
-    blocks-stand (blocks_for options.block_size entries) entries (blocks_for-some options.block_size entries) fits (blocks_for-entries options.block_size entries)
+stands options entries chosen fits =
+    blocks-stand options (blocks_for options entries) entries chosen (blocks_for-some options entries) fits (blocks_for-entries options entries)
 
-pub table_is_written : (options : BbtOptions) (entries : List Entry) → Fits entries → Written options (table_of options entries) entries
-table_is_written options entries fits = record { bytes = refl; stands = stands options entries fits }
+pub table_is_written : (options : BbtOptions) (entries : List Entry) → MayBeChosen options → Fits entries → Written options (table_of options entries) entries
+table_is_written options entries chosen fits = record { bytes = refl; stands = stands options entries chosen fits }

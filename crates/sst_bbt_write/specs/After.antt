@@ -16,7 +16,7 @@ HasFailed w = w.failed ≡ true
 -- Pinned by: add.ok, finish.written
 pub record After (w : BbtWriter) (options : BbtOptions) (entries : List Entry) (bytes : List ℕ) : Type 0 where
   pub chosen : w.options ≡ options
-  pub keeps : Keeps w (cut_of options.block_size entries) entries bytes
+  pub keeps : Keeps w (cut_of options entries) entries bytes
 
 -- the writer has failed, or some list was added to it
 -- Pinned by: finish.written, a_list_as_heavy_as_it_may_be

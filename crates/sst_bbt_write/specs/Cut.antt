@@ -9,12 +9,13 @@ use Rattle.sst_key.specs.declared.entries.Entry.{Entry}
 use Rattle.sst_block.specs.declared.row_form.RowForm.TheVariants.{Entries}
 use Rattle.sst_block.specs.Chosen.{block_of}
 use Rattle.sst_bbt_spec.specs.Rows.{rows_of}
+use Rattle.sst_bbt_write.specs.declared.bbt_options.BbtOptions.{BbtOptions}
 
--- a data block: a restart at each 16th entry
--- Own choice.
--- Pinned by: second_and_third_restarts
-abbrev pub data_block : List Entry → List ℕ
-data_block entries = block_of Entries 16 (rows_of entries)
+-- a data block: a restart at each so many entries
+-- RocksDB: include/rocksdb/table.h, block_restart_interval
+-- Pinned by: second_and_third_restarts, files_of_other_intervals
+abbrev pub data_block : BbtOptions → List Entry → List ℕ
+data_block options entries = block_of Entries options.restart (rows_of entries)
 
 -- the blocks that were ended, and the entries of the one that wasn't
 -- Own.
@@ -25,25 +26,25 @@ pub record Blocks : Type 0 where
 
 -- the block has an entry, and so many bytes or more
 -- Pinned by: a_block_for_each_version, forty_entries
-abbrev pub is_full : ℕ → List Entry → Bool
-is_full limit block = nat_lt 0 (length block) && nat_le limit (length (data_block block))
+abbrev pub is_full : BbtOptions → List Entry → Bool
+is_full options block = nat_lt 0 (length block) && nat_le options.block_size (length (data_block options block))
 
 -- one entry more
 -- Pinned by: a_list_is_cut_where_blocks_are_full, forty_entries
-abbrev pub add_entry : ℕ → Blocks → Entry → Blocks
-add_entry limit blocks e =
-    if is_full limit blocks.current
+abbrev pub add_entry : BbtOptions → Blocks → Entry → Blocks
+add_entry options blocks e =
+    if is_full options blocks.current
     then record { ended = blocks.ended ++ blocks.current ∷ []; current = e ∷ [] }
     else record { ended = blocks.ended; current = blocks.current ++ e ∷ [] }
 
 -- a list of entries, one by one
 -- Pinned by: a_list_is_cut_where_blocks_are_full, forty_entries
-abbrev pub cut_from : ℕ → Blocks → List Entry → Blocks
-cut_from limit blocks [] = blocks
-cut_from limit blocks (e ∷ rest) = cut_from limit (add_entry limit blocks e) rest
+abbrev pub cut_from : BbtOptions → Blocks → List Entry → Blocks
+cut_from options blocks [] = blocks
+cut_from options blocks (e ∷ rest) = cut_from options (add_entry options blocks e) rest
 
-unfoldable pub cut_of : ℕ → List Entry → Blocks
-cut_of limit entries = cut_from limit (record { ended = []; current = [] }) entries
+unfoldable pub cut_of : BbtOptions → List Entry → Blocks
+cut_of options entries = cut_from options (record { ended = []; current = [] }) entries
 
 -- the current block is ended with the list, if it has an entry
 -- RocksDB: Finish
@@ -54,8 +55,8 @@ ended_all blocks = blocks.ended ++ (if nat_lt 0 (length blocks.current) then blo
 -- the data blocks of a list
 -- RocksDB: Finish
 -- Pinned by: a_list_is_cut_where_blocks_are_full, worked_files
-unfoldable pub blocks_for : ℕ → List Entry → List (List Entry)
-blocks_for limit entries = ended_all (cut_of limit entries)
+unfoldable pub blocks_for : BbtOptions → List Entry → List (List Entry)
+blocks_for options entries = ended_all (cut_of options entries)
 
 -- all entries of some blocks
 -- Own.
@@ -65,13 +66,13 @@ entries_in (block ∷ rest) = block ++ entries_in rest
 
 -- no front of the block that is shorter than it is full
 -- Own.
-abbrev pub IsLean : ℕ → List Entry → Type 0
-IsLean limit block = (front back : List Entry) → block ≡ front ++ back → 0 < length back → IsTrue (is_full limit front) → ⊥
+abbrev pub IsLean : BbtOptions → List Entry → Type 0
+IsLean options block = (front back : List Entry) → block ≡ front ++ back → 0 < length back → IsTrue (is_full options front) → ⊥
 
 -- The blocks in their own words: each has an entry, none has an entry more than it takes to be full, and each but the
 -- last is full.
 -- Own.
-abbrev pub AreBlocks : ℕ → List (List Entry) → Type 0
-AreBlocks limit [] = Unit {0}
-AreBlocks limit (block ∷ []) = (0 < length block) × IsLean limit block
-AreBlocks limit (block ∷ next ∷ rest) = IsTrue (is_full limit block) × IsLean limit block × AreBlocks limit (next ∷ rest)
+abbrev pub AreBlocks : BbtOptions → List (List Entry) → Type 0
+AreBlocks options [] = Unit {0}
+AreBlocks options (block ∷ []) = (0 < length block) × IsLean options block
+AreBlocks options (block ∷ next ∷ rest) = IsTrue (is_full options block) × IsLean options block × AreBlocks options (next ∷ rest)

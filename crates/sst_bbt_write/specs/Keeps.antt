@@ -8,7 +8,8 @@ use Rattle.sst_block.specs.declared.row_form.RowForm.TheVariants.{Entries, Index
 use Rattle.sst_block.specs.Builder as builder
 use Rattle.sst_bbt_spec.specs.Rows.{rows_of}
 use Rattle.sst_bbt_write.specs.Cut.{Blocks, entries_in, is_full}
-use Rattle.sst_bbt_write.specs.Written.{Fits, data_part, index_rows, key_bytes, value_bytes}
+use Rattle.sst_bbt_write.specs.declared.bbt_options.BbtOptions.{BbtOptions}
+use Rattle.sst_bbt_write.specs.Written.{Fits, MayBeChosen, data_part, index_rows, key_bytes, value_bytes}
 use Rattle.sst_bbt_write.specs.declared.bbt_writer.BbtWriter.{BbtWriter}
 
 -- the block has an entry
@@ -21,17 +22,18 @@ HasEntry block = 0 < length block
 -- For proofs alone.
 pub record Keeps (w : BbtWriter) (cut : Blocks) (entries : List Entry) (bytes : List ℕ) : Type 0 where
   pub sound : w.failed ≡ false
+  pub chosen : MayBeChosen w.options
   -- the blocks are the list, and each that is ended has an entry
   pub joined : entries ≡ entries_in cut.ended ++ cut.current
   pub filled : All HasEntry cut.ended
   -- the block that isn't ended
-  pub block : builder.Holds w.block Entries 16 (rows_of cut.current)
+  pub block : builder.Holds w.block Entries w.options.restart (rows_of cut.current)
   pub rows : w.rows ≡ length cut.current
   -- the index and the number of those that are, which were appended
-  pub index : builder.Holds w.index (Index false false) 1 (index_rows 0 cut.ended)
+  pub index : builder.Holds w.index (Index false false) w.options.index_restart (index_rows w.options 0 cut.ended)
   pub blocks : w.blocks ≡ length cut.ended
   pub data_size : w.data_size ≡ length bytes
-  pub appended : bytes ≡ data_part cut.ended
+  pub appended : bytes ≡ data_part w.options cut.ended
   -- the entries
   pub last : w.last.items ≡ builder.last_key [] (rows_of entries)
   pub count : w.count ≡ length entries
@@ -57,8 +59,8 @@ ended_last cut = if nat_lt 0 (length cut.current) then ended_now cut else cut
 
 -- the block is ended, if it is full
 -- RocksDB: Flush, Finish
-abbrev pub with_room : ℕ → Blocks → Blocks
-with_room limit cut = if is_full limit cut.current then ended_now cut else cut
+abbrev pub with_room : BbtOptions → Blocks → Blocks
+with_room options cut = if is_full options cut.current then ended_now cut else cut
 
 -- the block has an entry more
 -- RocksDB: Flush, Finish

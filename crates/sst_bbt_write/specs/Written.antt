@@ -11,7 +11,7 @@ use Rattle.sst_key.specs.declared.entries.Entry.{Entry}
 use Rattle.sst_key.specs.Entry.{IsOrdered, weight, key_of}
 use Rattle.sst_block.specs.declared.row_form.RowForm.TheVariants.{Index}
 use Rattle.sst_block.specs.Block.{Row}
-use Rattle.sst_block.specs.Builder.{last_key}
+use Rattle.sst_block.specs.Builder.{last_key, interval_limit}
 use Rattle.sst_block.specs.Chosen.{block_of}
 use Rattle.sst_device.specs.Framed.{frame_of}
 use Rattle.sst_meta.specs.Names as names
@@ -40,6 +40,15 @@ pub record Fits (entries : List Entry) : Type 0 where
   pub limits : All IsInLimits entries
   pub light : weight entries ≤ weight_limit
 
+-- the choices may be made: a restart at each entry, or at each so many up to 65,536
+-- Own limit.
+-- Pinned by: written_file_stands_for_its_list
+pub record MayBeChosen (options : BbtOptions) : Type 0 where
+  pub restart_least : 1 ≤ options.restart
+  pub restart_most : options.restart ≤ interval_limit
+  pub index_restart_least : 1 ≤ options.index_restart
+  pub index_restart_most : options.index_restart ≤ interval_limit
+
 -- a stored block takes its bytes and a trailer of five
 -- RocksDB: block_based_table_reader.h, kBlockTrailerSize
 abbrev pub stored_length : List ℕ → ℕ
@@ -47,26 +56,26 @@ stored_length block = length block + 5
 
 -- the stored data blocks
 -- Own choice.
-abbrev pub data_part : List (List Entry) → List ℕ
-data_part blocks = flat_map (λ block. frame_of (data_block block)) blocks
+abbrev pub data_part : BbtOptions → List (List Entry) → List ℕ
+data_part options blocks = flat_map (λ block. frame_of (data_block options block)) blocks
 
 -- the index row of a data block that stands at this place: its last key leads to it
 -- Own choice, for now.
-abbrev pub index_row : ℕ → List Entry → Row
-index_row at block =
-    record { key = last_key [] (rows_of block); value = handle_spelling (record { offset = at; size = length (data_block block) }) }
+abbrev pub index_row : BbtOptions → ℕ → List Entry → Row
+index_row options at block =
+    record { key = last_key [] (rows_of block); value = handle_spelling (record { offset = at; size = length (data_block options block) }) }
 
 -- the index rows of data blocks, the first of which stands at this place
 -- Own choice, for now.
-abbrev pub index_rows : ℕ → List (List Entry) → List Row
-index_rows at [] = []
-index_rows at (block ∷ rest) = index_row at block ∷ index_rows (at + stored_length (data_block block)) rest
+abbrev pub index_rows : BbtOptions → ℕ → List (List Entry) → List Row
+index_rows options at [] = []
+index_rows options at (block ∷ rest) = index_row options at block ∷ index_rows options (at + stored_length (data_block options block)) rest
 
--- the index block: a restart at each row
--- Own choice.
--- Pinned by: forty_entries, worked_files
-abbrev pub index_block : List (List Entry) → List ℕ
-index_block blocks = block_of (Index false false) 1 (index_rows 0 blocks)
+-- the index block: a restart at each so many rows
+-- RocksDB: include/rocksdb/table.h, index_block_restart_interval
+-- Pinned by: forty_entries, worked_files, files_of_other_intervals
+abbrev pub index_block : BbtOptions → List (List Entry) → List ℕ
+index_block options blocks = block_of (Index false false) options.index_restart (index_rows options 0 blocks)
 
 -- the bytes of all internal keys, and of all values
 -- RocksDB: table_properties.h, raw_key_size, raw_value_size
@@ -104,11 +113,11 @@ properties sizes =
 
 -- the numbers of a list that was cut into these blocks
 -- RocksDB: table_properties.h
-abbrev pub sizes_of : List (List Entry) → List Entry → Sizes
-sizes_of blocks entries =
+abbrev pub sizes_of : BbtOptions → List (List Entry) → List Entry → Sizes
+sizes_of options blocks entries =
     record {
-      data_size = length (data_part blocks);
-      index_size = stored_length (index_block blocks);
+      data_size = length (data_part options blocks);
+      index_size = stored_length (index_block options blocks);
       blocks = length blocks;
       entries = length entries;
       keys = key_bytes entries;
@@ -128,18 +137,18 @@ end_of index sizes = frame_of index ++ ending_of (sizes.data_size + sizes.index_
 
 -- the same of blocks
 -- Pinned by: written_file_stands_for_its_list, worked_files
-abbrev pub end_part : List (List Entry) → Sizes → List ℕ
-end_part blocks sizes = end_of (index_block blocks) sizes
+abbrev pub end_part : BbtOptions → List (List Entry) → Sizes → List ℕ
+end_part options blocks sizes = end_of (index_block options blocks) sizes
 
 -- the bytes of the file of a list that was cut into these blocks
 -- Pinned by: written_file_stands_for_its_list, worked_files
-abbrev pub file_of_blocks : List (List Entry) → List Entry → List ℕ
-file_of_blocks blocks entries = data_part blocks ++ end_part blocks (sizes_of blocks entries)
+abbrev pub file_of_blocks : BbtOptions → List (List Entry) → List Entry → List ℕ
+file_of_blocks options blocks entries = data_part options blocks ++ end_part options blocks (sizes_of options blocks entries)
 
 -- the bytes of the file of a list
 -- Pinned by: written_file_stands_for_its_list, forty_entries
 unfoldable pub table_of : BbtOptions → List Entry → List ℕ
-table_of options entries = file_of_blocks (blocks_for options.block_size entries) entries
+table_of options entries = file_of_blocks options (blocks_for options entries) entries
 
 -- the file is the one that is written for the list, and it stands for it
 -- Own.

@@ -8,4 +8,12 @@ pub struct BbtOptions {
     ///
     /// RocksDB: `BlockBasedTableOptions::block_size`.
     pub block_size: u32,
+    /// A restart stands at each so many entries of a data block: 1 to 65,536.
+    ///
+    /// RocksDB: `BlockBasedTableOptions::block_restart_interval`.
+    pub restart: u32,
+    /// A restart stands at each so many rows of an index block: 1 to 65,536.
+    ///
+    /// RocksDB: `BlockBasedTableOptions::index_block_restart_interval`.
+    pub index_restart: u32,
 }

@@ -15,7 +15,7 @@ ghost use Rattle.sst_bbt_spec.specs.Rows.{rows_of};
 ghost use Rattle.sst_bbt_write.specs.Cut.{Blocks, is_full};
 ghost use Rattle.sst_key.specs.Limits.{weight_limit};
 ghost use Rattle.sst_bbt_write.specs.Keeps.{Keeps, KeepsSome, ended_now, ended_last, with_room, with_entry};
-ghost use Rattle.sst_bbt_write.specs.Written.{Fits, Written, end_part, sizes_of};
+ghost use Rattle.sst_bbt_write.specs.Written.{Fits, MayBeChosen, Written, end_part, sizes_of};
 ghost use Rattle.sst_bbt_write.specs.declared.bbt_options.BbtOptions.{BbtOptions};
 
 use crate::bbt_options::BbtOptions;
@@ -27,12 +27,6 @@ use sst_key::{EntryView, WriteFault, cmp_internal, pack};
 use sst_num::{Handle, Memory, Refused, put_handle};
 use std::alloc::Global;
 use std::mem;
-
-/// A restart stands at each so many entries of a data block.
-const RESTART_INTERVAL: u32 = 16;
-
-/// A restart stands at each row of an index block.
-const EACH_ROW: u32 = 1;
 
 /// The most bytes of a user key.
 const KEY_LIMIT: usize = 65_536;
@@ -84,34 +78,37 @@ pub struct BbtWriter {
 }
 
 /// A data block with no entry.
-fn data_block(alloc: Global) -> Result<BlockBuilder, Memory>
-    ensures { IfOk result (λ b. Holds b Entries 16 []) }
+fn data_block(alloc: Global, options: &BbtOptions) -> Result<BlockBuilder, Memory>
+    requires { MayBeChosen options.now }
+    ensures { IfOk result (λ b. Holds b Entries options.now.restart []) }
 {
-    BlockBuilder::new(alloc, RowForm::Entries, RESTART_INTERVAL, false)
+    BlockBuilder::new(alloc, RowForm::Entries, options.restart, false)
 }
 
 /// An index with no row.
-fn index_block(alloc: Global) -> Result<BlockBuilder, Memory>
-    ensures { IfOk result (λ b. Holds b (Index false false) 1 []) }
+fn index_block(alloc: Global, options: &BbtOptions) -> Result<BlockBuilder, Memory>
+    requires { MayBeChosen options.now }
+    ensures { IfOk result (λ b. Holds b (Index false false) options.now.index_restart []) }
 {
     let form = RowForm::Index {
         user_key: false,
         delta: false,
     };
-    BlockBuilder::new(alloc, form, EACH_ROW, false)
+    BlockBuilder::new(alloc, form, options.index_restart, false)
 }
 
 impl BbtWriter {
     /// A writer of no entry.
     pub fn new(alloc: Global, options: BbtOptions) -> Result<BbtWriter, Memory>
+        requires { MayBeChosen options }
         ensures { IfOk result (λ w. After w options [] []) }
     {
         Ok(BbtWriter {
             alloc,
             options,
-            block: data_block(alloc)?,
+            block: data_block(alloc, &options)?,
             rows: 0,
-            index: index_block(alloc)?,
+            index: index_block(alloc, &options)?,
             blocks: 0,
             data_size: 0,
             last: Vec::new(alloc),
@@ -194,7 +191,7 @@ impl BbtWriter {
     fn put_rest(self, out: &mut Vec<u8>) -> Result<u64, Memory>
         requires { KeepsSome self }
         ensures written { IfOk result (λ count. (cut : Blocks) (entries : List Entry) (bytes : List ℕ) → Keeps self cut entries bytes
-            → (out.new.items ≡ out.old.items ++ end_part cut.ended (sizes_of cut.ended entries)) × (count ≡ length entries)) }
+            → (out.new.items ≡ out.old.items ++ end_part self.options cut.ended (sizes_of self.options cut.ended entries)) × (count ≡ length entries)) }
         ensures err { OnErr result ((rest : List ℕ) × (out.new.items ≡ out.old.items ++ rest)) }
     {
         let index = self.index.finish()?;
@@ -214,7 +211,7 @@ impl BbtWriter {
     fn is_full(&self) -> bool
         requires { KeepsSome self.now }
         ensures { (cut : Blocks) (entries : List Entry) (bytes : List ℕ) → Keeps self.now cut entries bytes
-            → result ≡ is_full self.now.options.block_size cut.current }
+            → result ≡ is_full self.now.options cut.current }
     {
         if self.rows == 0 {
             return false;
@@ -229,7 +226,7 @@ impl BbtWriter {
         requires { KeepsSome self.old }
         ensures ok { OnOk result ((cut : Blocks) (entries : List Entry) (bytes : List ℕ) → Keeps self.old cut entries bytes
             → (piece : List ℕ) × (out.new.items ≡ out.old.items ++ piece)
-            × Keeps self.new (with_room self.old.options.block_size cut) entries (bytes ++ piece)) }
+            × Keeps self.new (with_room self.old.options cut) entries (bytes ++ piece)) }
         ensures grows { (rest : List ℕ) × (out.new.items ≡ out.old.items ++ rest) }
         ensures same { (self.new.options ≡ self.old.options) × (self.new.key ≡ self.old.key) }
     {
@@ -245,6 +242,7 @@ impl BbtWriter {
         ensures ok { OnOk result ((cut : Blocks) (entries : List Entry) (bytes : List ℕ) → Keeps self.old cut entries bytes
             → (piece : List ℕ) × (out.new.items ≡ out.old.items ++ piece) × Keeps self.new (ended_last cut) entries (bytes ++ piece)) }
         ensures grows { (rest : List ℕ) × (out.new.items ≡ out.old.items ++ rest) }
+        ensures same { self.new.options ≡ self.old.options }
     {
         if self.rows == 0 {
             return Ok(());
@@ -264,7 +262,7 @@ impl BbtWriter {
         ensures grows { (rest : List ℕ) × (out.new.items ≡ out.old.items ++ rest) }
         ensures same { (self.new.options ≡ self.old.options) × (self.new.key ≡ self.old.key) }
     {
-        let next = data_block(self.alloc)?;
+        let next = data_block(self.alloc, &self.options)?;
         let block = mem::replace(&mut self.block, next).finish()?;
         let size = block.len() as u64;
         put_frame(out, block.as_slice())?;

@@ -37,4 +37,4 @@ returns-clause-ok c = λ cut entries bytes kept fits.
     let e = entry_of c.args.e.now in
     let keys : c.args.self.now.keys + c.len.result ≡ c.args.self.now.keys + length (key_of e) = omega (arith, c.len.ensures, ap length c.requires.key) in
     entered_keeps c.args.self.now cut entries bytes e c.deref.result.now _ kept fits (c.deref.ensures.value ∙ c.requires.key) c.in_ok-add.ensures.ok
-    refl refl refl refl refl (ap (λ v. v.items) c.swap.ensures.x_after ∙ c.requires.key) refl keys refl refl
+    refl refl refl refl refl refl (ap (λ v. v.items) c.swap.ensures.x_after ∙ c.requires.key) refl keys refl refl
