@@ -1,4 +1,5 @@
 //! The commands, a file each.
 pub mod calls;
+pub mod get;
 pub mod produce;
 pub mod write;

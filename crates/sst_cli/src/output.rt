@@ -1,4 +1,5 @@
 //! What a command prints.
 pub mod answers;
 pub mod damage;
+pub mod entry_text;
 pub mod printing;
