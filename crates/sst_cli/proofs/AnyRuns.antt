@@ -10,9 +10,10 @@ use Rattle.sst_bbt_read.specs.Opening.{blocks_read}
 use Rattle.sst_bbt_read.specs.declared.bbt_fault.BbtFault.{BbtFault}
 use Rattle.sst_cli.specs.Behaviour.{Told, World, IsFault, Ends, CallsFor}
 use Rattle.sst_cli.specs.CallsCommand.{FoundCalls, Refused, Read, calls_outcome}
-use Rattle.sst_cli.specs.Command.{Command, Write, Calls, Get, behaviour, file_read}
+use Rattle.sst_cli.specs.Command.{Command, Write, Calls, Get, Scan, behaviour, file_read}
 use Rattle.sst_cli.specs.NoCommand.{no_command, usage_text}
 use Rattle.sst_cli.specs.GetCommand.{way_got_text}
+use Rattle.sst_cli.specs.ScanCommand.{scan_text}
 use Rattle.sst_cli.specs.OpenFile.{OpenFile, Absent, Damaged, Opened, done_with, file_outcome}
 use Rattle.sst_cli.specs.WriteCommand.{write_outcome}
 use Rattle.sst_cli.specs.declared.input.refusal.Refusal.{Refusal}
@@ -68,6 +69,8 @@ usage_found (Some (Write write)) found status ends is = absurd (neither_of statu
 usage_found (Some (Calls name)) found status ends is = absurd (none_of status Usage (calls_status found status ends) is (λ e. cc) (λ e. cc) (λ e. cc) (λ e. cc))
 usage_found (Some (Get line)) found status ends is =
     absurd (none_of status Usage (reading_status (way_got_text line.target) found status ends) is (λ e. cc) (λ e. cc) (λ e. cc) (λ e. cc))
+usage_found (Some (Scan line)) found status ends is =
+    absurd (none_of status Usage (reading_status (scan_text line.snapshot) found status ends) is (λ e. cc) (λ e. cc) (λ e. cc) (λ e. cc))
 
 pub usage_only : (command : Option Command) (before after : World) (status : Status) → Ends (behaviour command) before after status
     → status ≡ Usage → command ≡ None
@@ -82,6 +85,8 @@ exhausted_found (Some (Write write)) found status ends is = neither_of status Ex
 exhausted_found (Some (Calls name)) found status ends is = none_of status Exhausted (calls_status found status ends) is (λ e. cc) (λ e. cc) (λ e. cc) (λ e. cc)
 exhausted_found (Some (Get line)) found status ends is =
     none_of status Exhausted (reading_status (way_got_text line.target) found status ends) is (λ e. cc) (λ e. cc) (λ e. cc) (λ e. cc)
+exhausted_found (Some (Scan line)) found status ends is =
+    none_of status Exhausted (reading_status (scan_text line.snapshot) found status ends) is (λ e. cc) (λ e. cc) (λ e. cc) (λ e. cc)
 
 pub never : (command : Option Command) (before after : World) (status : Status) → Ends (behaviour command) before after status → status ≢ Exhausted
 never command before after status ends is =
@@ -102,6 +107,7 @@ file_only (Some (Calls name)) before after status ends is =
     let found = whole_unless (behaviour (Some (Calls name))) before after status ends (not_file status is) in
     (name, refl, whole_file name before after status found.0 found.1 found.2 is)
 file_only (Some (Get line)) before after status ends is = (line.name, refl, reading_fault line.name (way_got_text line.target) before after status ends is)
+file_only (Some (Scan line)) before after status ends is = (line.name, refl, reading_fault line.name (scan_text line.snapshot) before after status ends is)
 
 pub device : (command : Option Command) (told : Told) → CallsFor (behaviour command) told Device
     → (name : List ℕ) × (option_and_then file_read command ≡ Some name) × IsTrue (misses told.held name 0)
@@ -112,3 +118,4 @@ device (Some (Calls name)) told found =
     let some = device_found name told found.0 found.1 Device found.2 refl in
     (name, refl, some.0, λ same. some.1)
 device (Some (Get line)) told found = (line.name, refl, reading_absent line.name (way_got_text line.target) told found.0 found.1 found.2, λ same. absurd cc)
+device (Some (Scan line)) told found = (line.name, refl, reading_absent line.name (scan_text line.snapshot) told found.0 found.1 found.2, λ same. absurd cc)

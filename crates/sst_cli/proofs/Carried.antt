@@ -6,7 +6,7 @@ use Rattle.sst_device.specs.Faults.{Rose}
 use Rattle.sst_device.specs.Folder.{Files}
 use Rattle.sst_cli.specs.Behaviour.{World, Outcome, Behaviour, IsFault, IsStop, HasFailed, HidesNone, Ends, Carries}
 use Rattle.std.specs.Option.{option_map}
-use Rattle.sst_cli.specs.Command.{Command, Write, Calls, Get, behaviour, seen}
+use Rattle.sst_cli.specs.Command.{Command, Write, Calls, Get, Scan, behaviour, seen}
 use Rattle.sst_cli.specs.declared.command.Command.{Command as Code}
 use Rattle.sst_cli.specs.Printed.{IsPrinted}
 use Rattle.sst_cli.specs.declared.status.Status.{Status}
@@ -120,6 +120,7 @@ may-keep None held = refl
 may-keep (Some (Write line)) held = inl refl
 may-keep (Some (Calls name)) held = refl
 may-keep (Some (Get line)) held = refl
+may-keep (Some (Scan line)) held = refl
 
 -- the command that the code has
 pub carries-seen : (command : Option Code) (some other : Code) (before after : World) (status : Status) (P Q : Type 0) → command ≡ Some some → some ≡ other

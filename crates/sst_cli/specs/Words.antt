@@ -1,5 +1,5 @@
--- The words of a command line. These words are this project's own. For now there are three commands,
--- `write block OUT`, with the option `block=N`, `calls FILE`, and `get FILE USER SEQ`.
+-- The words of a command line. These words are this project's own. For now there are four commands,
+-- `write block OUT`, with the option `block=N`, `calls FILE`, `get FILE USER SEQ`, and `scan FILE`, with or without a SEQ.
 -- Pinned by: words_that_are_no_command, good_sizes
 use Rattle.std.specs.Prelude.{ℕ, ◌&&◌, nat_le, if◌then◌else◌, List, [], ◌∷◌, length, take, drop, codes, Option, Some, None, option_and_then}
 use Rattle.std.specs.Option.{option_map}
@@ -88,3 +88,23 @@ get_line (command ∷ name ∷ user ∷ []) = None
 get_line (command ∷ name ∷ user ∷ seq ∷ []) =
     option_and_then (λ named. get_of_name named (target_of_fields user seq)) (name_after (codes "get") command name)
 get_line (command ∷ name ∷ user ∷ seq ∷ next ∷ rest) = None
+
+-- a `scan`: the name of the file that it reads, and the snapshot, if it has one
+-- Pinned by: words_that_ask_nothing, questions
+pub record ScanLine : Type 0 where
+  pub name : List ℕ
+  pub snapshot : Option ℕ
+
+abbrev pub scan_of_name : List ℕ → Option ℕ → Option ScanLine
+scan_of_name name seq = option_map (λ (n : ℕ). record { name = name; snapshot = Some n }) seq
+
+-- the `scan` that the words are; nothing where they are none. SEQ is as in a call line.
+-- Pinned by: words_that_ask_nothing, questions
+abbrev pub scan_line : List (List ℕ) → Option ScanLine
+scan_line [] = None
+scan_line (command ∷ []) = None
+scan_line (command ∷ name ∷ []) =
+    option_map (λ (named : List ℕ). record { name = named; snapshot = None }) (name_after (codes "scan") command name)
+scan_line (command ∷ name ∷ seq ∷ []) =
+    option_and_then (λ named. scan_of_name named (seq_field seq)) (name_after (codes "scan") command name)
+scan_line (command ∷ name ∷ seq ∷ next ∷ rest) = None

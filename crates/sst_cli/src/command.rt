@@ -43,6 +43,15 @@ pub struct GetLine<'a> {
     pub target: Target,
 }
 
+/// A `scan`: the name of the file that it reads, and the snapshot, if it has one.
+#[derive(Clone, Copy)]
+pub struct ScanLine<'a> {
+    /// The name of the file.
+    pub name: &'a str,
+    /// The snapshot: entries with a greater sequence number aren't seen.
+    pub snapshot: Option<u64>,
+}
+
 /// A command.
 #[derive(Drop)]
 pub enum Command<'a> {
@@ -52,6 +61,8 @@ pub enum Command<'a> {
     Calls(&'a str),
     /// Shows the newest entry of a user key in the named file that a snapshot sees.
     Get(GetLine<'a>),
+    /// Lists the entries of the named file, or those that a snapshot sees.
+    Scan(ScanLine<'a>),
 }
 
 /// The command that the words are, by the first of them, if they are one.
@@ -83,6 +94,9 @@ fn command_by<'a>(
     if first == "get" {
         return get_by(alloc, words);
     }
+    if first == "scan" {
+        return Ok(scan_by(words));
+    }
     Ok(None)
 }
 
@@ -108,6 +122,13 @@ fn get_by(alloc: Global, words: &[String]) -> Result<Option<Command<'_>>, Memory
         None => Ok(None),
         Some(line) => Ok(Some(Command::Get(line))),
     }
+}
+
+/// The command of words that are a `scan`, if they are one.
+fn scan_by(words: &[String]) -> Option<Command<'_>>
+    ensures { option_map seen result ≡ option_map commands.Scan (line.scan_line (map string_bytes words.now)) }
+{
+    Some(Command::Scan(scan_line(words)?))
 }
 
 /// The `write` that the words are, if they are one.
@@ -239,5 +260,29 @@ fn get_of_name<'a>(
     match target_of_fields(alloc, user.as_bytes(), seq.as_bytes())? {
         None => Ok(None),
         Some(target) => Ok(Some(GetLine { name, target })),
+    }
+}
+
+/// The `scan` that the words are, if they are one.
+fn scan_line(words: &[String]) -> Option<ScanLine<'_>>
+    ensures { option_map (λ l. record { name = l.name.now; snapshot = l.snapshot }) result ≡ line.scan_line (map string_bytes words.now) }
+{
+    match words {
+        [command, name] => {
+            let name = name_after("scan", command.as_str(), name.as_str())?;
+            Some(ScanLine {
+                name,
+                snapshot: None,
+            })
+        }
+        [command, name, seq] => {
+            let name = name_after("scan", command.as_str(), name.as_str())?;
+            let seq = seq_field(seq.as_str().as_bytes())?;
+            Some(ScanLine {
+                name,
+                snapshot: Some(seq),
+            })
+        }
+        _ => None,
     }
 }

@@ -2,4 +2,5 @@
 pub mod calls;
 pub mod get;
 pub mod produce;
+pub mod scan;
 pub mod write;

@@ -21,6 +21,7 @@ ghost use Rattle.sst_cli.specs.WriteCommand.{Wrote};
 use crate::command::{Command, command_of};
 use crate::commands::calls::calls;
 use crate::commands::get::get;
+use crate::commands::scan::scan;
 use crate::commands::write::write;
 use crate::output::printing::print;
 use crate::status::Status;
@@ -33,7 +34,7 @@ const USAGE: &str = "usage\n";
 
 /// Runs the program on its words, which are those after its name, over a folder, an input and an output.
 ///
-/// There are three commands, and neither OUT nor FILE is empty:
+/// There are four commands, and neither OUT nor FILE is empty:
 ///
 /// - `write block OUT`, perhaps with the option `block=N`: the input is a list of entry lines; OUT is begun, and holds the
 ///   block-based file of the list at the end. A data block of N bytes or more, 4096 without the option, is ended before
@@ -52,6 +53,7 @@ const USAGE: &str = "usage\n";
 /// 0       Done       the list was written                        wrote N, how many entries
 ///                    the calls were answered                     a line for each call
 ///                    the Get was answered                        the entry's line, or none
+///                    the entries were listed                     a line for each entry
 /// 1       Usage      the words are no command                    usage
 /// 2       Input      a line is refused                           input N REASON, N from 1
 /// 3       File       FILE is damaged, or not of a form that is   damage FAULT
@@ -162,6 +164,7 @@ fn carry_out<F: Folder, I: Intake, O: Sink>(
         Some(Command::Write(line)) => write(alloc, line, files, input, out),
         Some(Command::Calls(name)) => calls(alloc, name, files, input, out),
         Some(Command::Get(line)) => get(alloc, line, files, out),
+        Some(Command::Scan(line)) => scan(alloc, line, files, out),
         None => print_usage(out),
     }
 }

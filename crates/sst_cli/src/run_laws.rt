@@ -1,6 +1,8 @@
 //! Laws of runs: what follows from how a command ends, for each command in its own words.
 ghost use Rattle.std.specs.Prelude.{◌≡◌, ◌≢◌, ◌⊎◌, ℕ, List, [], Option, Some, None, option_and_then, Ok, Err, IsTrue};
 ghost use Rattle.std.specs.Io.KnownBytes.{append_known};
+ghost use Rattle.sst_key.specs.Entry.{IsOrdered};
+ghost use Rattle.sst_key.specs.ListMachine.{visible};
 ghost use Rattle.sst_key.specs.declared.calls.Call.{Call};
 ghost use Rattle.sst_key.specs.declared.entries.Entry.{Entry};
 ghost use Rattle.sst_device.specs.Folder.{Files, file_of, misses, put_file};
@@ -17,8 +19,9 @@ ghost use Rattle.sst_cli.specs.NoCommand.{no_command, usage_text};
 ghost use Rattle.sst_cli.specs.InputReading.{read_calls, read_input};
 ghost use Rattle.sst_cli.specs.OpenFile.{HasShown, TellsDamage, prints_of_file};
 ghost use Rattle.sst_cli.specs.Refusals.{refusal_text};
+ghost use Rattle.sst_cli.specs.ScanCommand.{list_text, scan_command, scan_text, shown_at};
 ghost use Rattle.sst_cli.specs.Words as line;
-ghost use Rattle.sst_cli.specs.Words.{GetLine, WriteLine};
+ghost use Rattle.sst_cli.specs.Words.{GetLine, ScanLine, WriteLine};
 ghost use Rattle.sst_cli.specs.WriteCommand.{Wrote, write_command};
 ghost use Rattle.sst_cli.specs.declared.input.refusal.Refusal.{Refusal};
 ghost use Rattle.sst_cli.specs.declared.status.Status.{Status};
@@ -26,7 +29,7 @@ ghost use Rattle.sst_cli.specs.declared.status.Status.TheVariants as ends_with;
 
 /// Words are a command exactly where they are one by their places.
 ///
-/// `write`, `calls` and `get`: words that are a `write` are that command, and no other, and so of the others. `none`: words that
+/// `write`, `calls`, `get` and `scan`: words that are a `write` are that command, and no other, and so of the others. `none`: words that
 /// are no command are none of these. The words are this project's own.
 pub fn a_command_is_by_its_words()
     ensures write { (words : List (List ℕ)) (write : WriteLine) → line.write_line words ≡ Some write → command_of words ≡ Some (Command.Write write) }
@@ -35,10 +38,12 @@ pub fn a_command_is_by_its_words()
     ensures is_calls { (words : List (List ℕ)) (name : List ℕ) → command_of words ≡ Some (Command.Calls name) → line.calls_name words ≡ Some name }
     ensures get { (words : List (List ℕ)) (get : GetLine) → line.get_line words ≡ Some get → command_of words ≡ Some (Command.Get get) }
     ensures is_get { (words : List (List ℕ)) (get : GetLine) → command_of words ≡ Some (Command.Get get) → line.get_line words ≡ Some get }
+    ensures scan { (words : List (List ℕ)) (scan : ScanLine) → line.scan_line words ≡ Some scan → command_of words ≡ Some (Command.Scan scan) }
+    ensures is_scan { (words : List (List ℕ)) (scan : ScanLine) → command_of words ≡ Some (Command.Scan scan) → line.scan_line words ≡ Some scan }
     ensures none { (words : List (List ℕ)) → command_of words ≡ None
-        → (line.out_name words ≡ None) × (line.calls_name words ≡ None) × (line.get_line words ≡ None) }
+        → (line.out_name words ≡ None) × (line.calls_name words ≡ None) × (line.get_line words ≡ None) × (line.scan_line words ≡ None) }
     ensures neither { (words : List (List ℕ)) → line.out_name words ≡ None → line.calls_name words ≡ None → line.get_line words ≡ None
-        → command_of words ≡ None }
+        → line.scan_line words ≡ None → command_of words ≡ None }
 {}
 
 /// Where the folder and the input are told, whatever a command may find there has one outcome.
@@ -209,4 +214,30 @@ pub fn what_a_get_comes_to()
         → IsFault status ⊎ HasShown status (way_got_text get.target blocks) before after }
     ensures command { (words : List (List ℕ)) (get : GetLine) (before after : World) (status : Status) → line.get_line words ≡ Some get
         → Ends (behaviour (command_of words)) before after status → Ends (get_command get) before after status }
+{}
+
+/// What a `scan` comes to, beside what reading a file comes to.
+///
+/// `scanned_as_list`: on a file that stands for a list the lines of the list are printed, or, at a snapshot, those of what is
+/// visible of it. `scanned`: on a file that opens, whatever its separators, those of the entries of its blocks, or of the ones
+/// among them that the walk doesn't pass over. `command`: words that are a `scan` come to this. The texts are this project's
+/// own.
+pub fn what_a_scan_comes_to()
+    ensures scanned_as_list { (scan : ScanLine) (before after : World) (status : Status) (file : List ℕ) (entries : List Entry)
+        → Ends (scan_command scan) before after status → file_of before.told.held scan.name ≡ Some file → BlockBased file entries
+        → IsFault status ⊎ HasShown status (list_text scan.snapshot entries) before after }
+    ensures scanned { (scan : ScanLine) (before after : World) (status : Status) (file : List ℕ) (blocks : List IndexedBlock)
+        → Ends (scan_command scan) before after status → file_of before.told.held scan.name ≡ Some file → Opens file blocks
+        → IsFault status ⊎ HasShown status (scan_text scan.snapshot blocks) before after }
+    ensures command { (words : List (List ℕ)) (scan : ScanLine) (before after : World) (status : Status) → line.scan_line words ≡ Some scan
+        → Ends (behaviour (command_of words)) before after status → Ends (scan_command scan) before after status }
+{}
+
+/// A walk from the front that passes over each entry above a snapshot, and each whose user key is that of the entry printed
+/// last, prints what the snapshot sees.
+///
+/// It holds of each list in order. RocksDB: `ReadOptions::snapshot` in include/rocksdb/options.h, and `DBIter` in db/db_iter.cc,
+/// which passes over the later entries of a user key in this way.
+pub fn a_filtered_walk_is_what_is_visible()
+    ensures { (snapshot : ℕ) (entries : List Entry) → IsOrdered entries → shown_at snapshot entries ≡ visible entries snapshot }
 {}

@@ -19,6 +19,12 @@ returns-clause-get c = lemma.is_get
 pub returns-clause-is_get : goal.returns-clause-is_get
 returns-clause-is_get c = lemma.get_is
 
+pub returns-clause-scan : goal.returns-clause-scan
+returns-clause-scan c = lemma.is_scan
+
+pub returns-clause-is_scan : goal.returns-clause-is_scan
+returns-clause-is_scan c = lemma.scan_is
+
 pub returns-clause-none : goal.returns-clause-none
 returns-clause-none c = lemma.none_is
 
