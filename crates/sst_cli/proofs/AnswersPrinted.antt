@@ -9,7 +9,7 @@ use Rattle.sst_cli.specs.Replies.{answer_line, way_from, way_text, Printing}
 use Rattle.sst_bbt_spec.specs.Way.{IndexedBlock, joined, way_answer}
 use Rattle.sst_cli.proofs.Carried.{append_known-nil}
 
-append_known-append : (known : Option (List ℕ)) (a b : List ℕ) → append_known (append_known known a) b ≡ append_known known (a ++ b)
+pub append_known-append : (known : Option (List ℕ)) (a b : List ℕ) → append_known (append_known known a) b ≡ append_known known (a ++ b)
 append_known-append None a b = refl
 append_known-append (Some bytes) a b = ap Some (append_assoc bytes a b)
 

@@ -167,7 +167,7 @@ absent name before after status ends missed =
       | inr found ↦ whole_absent name before after status found.0 found.1 found.2 missed
     ]
 
-take-nil : (n : ℕ) → ◌≡◌ {A = List ℕ} (take n []) []
+pub take-nil : (n : ℕ) → ◌≡◌ {A = List ℕ} (take n []) []
 take-nil zero = refl
 take-nil (suc n) = refl
 

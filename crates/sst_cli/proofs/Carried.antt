@@ -3,13 +3,14 @@ use Rattle.std.proofs.Common.{◌≡◌, ◌⊎◌, ℕ, List, [], Option, None,
 use Rattle.std.specs.Io.KnownBytes.{append_known}
 use Rattle.std.proofs.lemmas.List.{append-nil}
 use Rattle.sst_device.specs.Faults.{Rose}
+use Rattle.sst_device.specs.Folder.{Files}
 use Rattle.sst_cli.specs.Behaviour.{World, Outcome, Behaviour, IsFault, IsStop, HasFailed, HidesNone, Ends, Carries}
 use Rattle.std.specs.Option.{option_map}
-use Rattle.sst_cli.specs.Command.{behaviour, seen}
+use Rattle.sst_cli.specs.Command.{Command, Write, Calls, Get, Scan, behaviour, seen}
 use Rattle.sst_cli.specs.declared.command.Command.{Command as Code}
 use Rattle.sst_cli.specs.Printed.{IsPrinted}
 use Rattle.sst_cli.specs.declared.status.Status.{Status}
-use Rattle.sst_cli.specs.declared.status.Status.TheVariants.{Device}
+use Rattle.sst_cli.specs.declared.status.Status.TheVariants.{Device, Memory}
 
 -- nothing more is what was there
 pub append_known-nil : (known : Option (List ℕ)) → known ≡ append_known known []
@@ -81,6 +82,18 @@ carries-fault b before after status P Q Failed fault cause failed hides sink pri
   spares_input = input_spared;
 }
 
+-- out of memory before anything was touched
+pub carries-memory : (b : Behaviour) (before after : World) (status : Status) (P Q : Type 0) → status ≡ Memory
+    → after.folder ≡ before.folder → after.intake ≡ before.intake → after.sink ≡ before.sink → after.written ≡ before.written
+    → b.MayChange before.told.held after.told.held → P → Q → Carries b before after status P Q
+carries-memory b before after status P Q memory folder intake sink printed changes same_folder same_input = record {
+  ends = inl (record { stop = inr memory; printed = printed });
+  changes = changes;
+  hides_none = inr (folder, (intake, sink));
+  spares_folder = λ spared. same_folder;
+  spares_input = λ spared. same_input;
+}
+
 -- where the folder and the input weren't handed on
 pub carries-spared : (b : Behaviour) (before after : World) (status : Status) (P Q R S : Type 0) → R → S → Carries b before after status P Q → Carries b before after status R S
 carries-spared b before after status P Q R S folder input carried = record {
@@ -90,6 +103,24 @@ carries-spared b before after status P Q R S folder input carried = record {
   spares_folder = λ spared. folder;
   spares_input = λ spared. input;
 }
+
+-- where the input wasn't handed on
+pub carries-untaken : (b : Behaviour) (before after : World) (status : Status) (P Q S : Type 0) → S → Carries b before after status P Q → Carries b before after status P S
+carries-untaken b before after status P Q S input carried = record {
+  ends = carried.ends;
+  changes = carried.changes;
+  hides_none = carried.hides_none;
+  spares_folder = carried.spares_folder;
+  spares_input = λ spared. input;
+}
+
+-- any command may change nothing
+pub may-keep : (command : Option Command) (held : Option Files) → (behaviour command).MayChange held held
+may-keep None held = refl
+may-keep (Some (Write line)) held = inl refl
+may-keep (Some (Calls name)) held = refl
+may-keep (Some (Get line)) held = refl
+may-keep (Some (Scan line)) held = refl
 
 -- the command that the code has
 pub carries-seen : (command : Option Code) (some other : Code) (before after : World) (status : Status) (P Q : Type 0) → command ≡ Some some → some ≡ other

@@ -4,10 +4,12 @@ use Rattle.sst_key.specs.declared.calls.Call.{Call}
 use Rattle.sst_device.specs.Folder.{Files}
 use Rattle.sst_cli.specs.Behaviour.{InputIs, tells}
 use Rattle.sst_cli.specs.CallsCommand.{FoundCalls, Refused, Read, AreFoundCalls, answers_of, calls_outcome}
-use Rattle.sst_cli.specs.Command.{Command, Write, Calls, behaviour}
+use Rattle.sst_cli.specs.Command.{Command, Write, Calls, Get, Scan, behaviour}
 use Rattle.sst_cli.specs.InputReading.{read_calls, read_input}
 use Rattle.sst_cli.specs.WriteCommand.{write_outcome}
-use Rattle.sst_cli.specs.OpenFile.{file_outcome}
+use Rattle.sst_cli.specs.GetCommand.{way_got_text}
+use Rattle.sst_cli.specs.ScanCommand.{scan_text}
+use Rattle.sst_cli.specs.OpenFile.{done_with, file_outcome}
 use Rattle.sst_cli.specs.declared.input.refusal.Refusal.{Refusal}
 use Rattle.sst_cli.proofs.FileFound.{found_file, one_file_outcome}
 use Rattle.sst_cli.proofs.OneReading.{same_ok, same_err, not_both}
@@ -30,6 +32,10 @@ pub outcome-one : (command : Option Command) (files : Files) (text : List ℕ) (
 outcome-one None files text some other is same = refl
 outcome-one (Some (Write write)) files text some other is same = ap write_outcome (sym (is text refl) ∙ same text refl)
 outcome-one (Some (Calls name)) files text some other is same = calls_outcome-one name files text some other is same
+outcome-one (Some (Get line)) files text some other is same =
+    one_file_outcome (λ blocks. done_with (way_got_text line.target blocks)) files line.name some other is same
+outcome-one (Some (Scan line)) files text some other is same =
+    one_file_outcome (λ blocks. done_with (scan_text line.snapshot blocks)) files line.name some other is same
 
 -- what a told text reads as
 reads_so : {A : Type 0} (read : List ℕ → A) (text : List ℕ) (reading : A) → read text ≡ reading → InputIs (Some text) (λ t. read t ≡ reading)
@@ -46,3 +52,5 @@ pub found-some : (command : Option Command) (files : Files) (text : List ℕ) �
 found-some None files text = (tt, tt)
 found-some (Some (Write write)) files text = (read_input text, reads_so read_input text (read_input text) refl)
 found-some (Some (Calls name)) files text = found_calls name files text (read_calls text) refl
+found-some (Some (Get line)) files text = found_file files line.name
+found-some (Some (Scan line)) files text = found_file files line.name

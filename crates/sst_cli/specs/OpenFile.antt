@@ -1,13 +1,19 @@
 -- A command that opens a file and prints something of it: what the file may be found as, and what is answered then.
 use Rattle.std.specs.Prelude.{◌≡◌, ℕ, List, [], ◌++◌, Option, Err, IsTrue, All}
+use Rattle.std.specs.Io.KnownBytes.{append_known}
+use Rattle.hex.specs.Hex.{IsBytes}
+use Rattle.sst_meta.specs.Footer.{later_length}
+use Rattle.sst_meta.specs.FooterReading.{last_bytes}
 use Rattle.sst_bbt_spec.specs.BlockBased.{Opens}
 use Rattle.sst_bbt_spec.specs.Rows.{HasSeq}
 use Rattle.sst_bbt_spec.specs.Way.{IndexedBlock, joined}
 use Rattle.sst_bbt_read.specs.FaultText.{fault_text}
 use Rattle.sst_bbt_read.specs.Opening.{blocks_read}
+use Rattle.sst_bbt_read.specs.Shows.{Shows}
 use Rattle.sst_bbt_read.specs.declared.bbt_fault.BbtFault.{BbtFault}
 use Rattle.sst_device.specs.Folder.{Files, misses}
-use Rattle.sst_cli.specs.Behaviour.{Outcome, Behaviour, FileIs}
+use Rattle.sst_cli.specs.Behaviour.{World, Outcome, Behaviour, FileIs}
+use Rattle.sst_cli.specs.declared.status.Status.{Status}
 use Rattle.sst_cli.specs.declared.status.Status.TheVariants.{Done, File, Device}
 
 -- what a file may be found as: the folder tells that it isn't there; this fault is the first thing that is wrong with
@@ -57,3 +63,29 @@ on_file name answer =
       SparesFolder = λ told status. ⊥;
       SparesInput = λ told status. Unit {0};
     }
+
+-- the command that opens the named file and prints this text of its data blocks
+-- Pinned by: what_reading_a_file_comes_to.printed
+abbrev pub prints_of_file : List ℕ → (List IndexedBlock → List ℕ) → Behaviour
+prints_of_file name text = on_file name (λ blocks. done_with (text blocks))
+
+-- the command did all: this text was printed, no file changed, and the input wasn't touched
+-- Pinned by: what_reading_a_file_comes_to.printed, what_a_get_comes_to.got_as_list
+pub record HasShown (status : Status) (text : List ℕ) (before after : World) : Type 0 where
+  pub done : status ≡ Done
+  pub kept : after.told.held ≡ before.told.held
+  pub left : after.told.left ≡ before.told.left
+  pub printed : after.written ≡ append_known before.written text
+
+-- The first thing that is wrong with the file was printed, and the file shows it; no file changed, and the input wasn't
+-- touched. That it is shown needs that the last numbers of the file, as many as a footer has, are bytes, as those of a real
+-- one are.
+-- Pinned by: what_reading_a_file_comes_to.damaged
+pub record TellsDamage (status : Status) (file : List ℕ) (before after : World) : Type 0 where
+  pub ends : status ≡ File
+  pub kept : after.told.held ≡ before.told.held
+  pub left : after.told.left ≡ before.told.left
+  pub fault : BbtFault
+  pub first : blocks_read file ≡ Err fault
+  pub shown : IsBytes (last_bytes later_length file) → Shows file fault
+  pub printed : after.written ≡ append_known before.written (fault_text fault)

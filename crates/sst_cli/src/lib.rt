@@ -131,7 +131,8 @@ pub use laws::{
 };
 pub use program::run;
 pub use run_laws::{
-    a_command_is_by_its_words, a_told_world_has_one_outcome, what_a_run_comes_to,
-    what_a_write_comes_to, what_calls_come_to,
+    a_command_is_by_its_words, a_filtered_walk_is_what_is_visible, a_told_world_has_one_outcome,
+    what_a_get_comes_to, what_a_run_comes_to, what_a_scan_comes_to, what_a_write_comes_to,
+    what_calls_come_to, what_reading_a_file_comes_to,
 };
 pub use status::Status;

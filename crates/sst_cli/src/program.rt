@@ -20,10 +20,13 @@ ghost use Rattle.sst_cli.specs.WriteCommand.{Wrote};
 
 use crate::command::{Command, command_of};
 use crate::commands::calls::calls;
+use crate::commands::get::get;
+use crate::commands::scan::scan;
 use crate::commands::write::write;
 use crate::output::printing::print;
 use crate::status::Status;
 use sst_device::{Folder, Intake, Sink};
+use sst_num::Memory;
 use std::alloc::Global;
 
 /// What is printed for words that are no command.
@@ -31,7 +34,7 @@ const USAGE: &str = "usage\n";
 
 /// Runs the program on its words, which are those after its name, over a folder, an input and an output.
 ///
-/// There are two commands, and neither OUT nor FILE is empty:
+/// There are four commands, and neither OUT nor FILE is empty:
 ///
 /// - `write block OUT`, perhaps with the option `block=N`: the input is a list of entry lines; OUT is begun, and holds the
 ///   block-based file of the list at the end. A data block of N bytes or more, 4096 without the option, is ended before
@@ -40,6 +43,8 @@ const USAGE: &str = "usage\n";
 ///   from one position. The whole input is read and checked before FILE is opened. No file changes. Where the
 ///   separators in the index of FILE don't separate its data blocks, FILE stands for no list; then Get, Seek and
 ///   SeekForPrev go by the index, and may miss entries that First and Next show (`way_answer`, sst_bbt_spec).
+/// - `get FILE USER SEQ`: one Get is answered from the list that FILE stands for, of a user key and a snapshot as a call line
+///   has them. The input isn't touched, and no file changes.
 ///
 /// Lines of text are printed, each with LF at its end. The status that is answered stands for a number:
 ///
@@ -47,6 +52,8 @@ const USAGE: &str = "usage\n";
 /// number  status     when                                        printed
 /// 0       Done       the list was written                        wrote N, how many entries
 ///                    the calls were answered                     a line for each call
+///                    the Get was answered                        the entry's line, or none
+///                    the entries were listed                     a line for each entry
 /// 1       Usage      the words are no command                    usage
 /// 2       Input      a line is refused                           input N REASON, N from 1
 /// 3       File       FILE is damaged, or not of a form that is   damage FAULT
@@ -118,7 +125,26 @@ pub fn run<F: Folder, I: Intake, O: Sink>(
     ensures spares_folder { (behaviour (command_of (map string_bytes words.now))).SparesFolder (tells (F.held files.old) (I.left input.old)) result → files.new ≡ files.old }
     ensures spares_input { (behaviour (command_of (map string_bytes words.now))).SparesInput (tells (F.held files.old) (I.left input.old)) result → input.new ≡ input.old }
 {
-    carry_out(alloc, command_of(words), files, input, out)
+    carry_out_words(alloc, words, files, input, out)
+}
+
+/// Carries out the command that the words are.
+fn carry_out_words<F: Folder, I: Intake, O: Sink>(
+    alloc: Global,
+    words: &[String],
+    files: &mut F,
+    input: &mut I,
+    out: &mut O,
+) -> Status
+    ensures { Carries (behaviour (command_of (map string_bytes words.now)))
+        (world (F.held files.old) (I.left input.old) (O.written out.old) (F.faults files.old) (I.faults input.old) (O.faults out.old))
+        (world (F.held files.new) (I.left input.new) (O.written out.new) (F.faults files.new) (I.faults input.new) (O.faults out.new))
+        result (files.new ≡ files.old) (input.new ≡ input.old) }
+{
+    match command_of(alloc, words) {
+        Ok(command) => carry_out(alloc, command, files, input, out),
+        Err(Memory) => Status::Memory,
+    }
 }
 
 /// Carries out a command, or says that the words are none.
@@ -137,6 +163,8 @@ fn carry_out<F: Folder, I: Intake, O: Sink>(
     match command {
         Some(Command::Write(line)) => write(alloc, line, files, input, out),
         Some(Command::Calls(name)) => calls(alloc, name, files, input, out),
+        Some(Command::Get(line)) => get(alloc, line, files, out),
+        Some(Command::Scan(line)) => scan(alloc, line, files, out),
         None => print_usage(out),
     }
 }

@@ -11,8 +11,9 @@ use std::alloc::Global;
 /// The most bytes that the user key of a target has.
 const KEY_LIMIT: usize = 65_536;
 
-/// The target of its two fields.
-fn target_of_fields(alloc: Global, user: &[u8], seq: &[u8]) -> Result<Option<Target>, Memory>
+/// The target of its two fields: bytes of at most 65,536 in hex digits or a dash, and a sequence number. Nothing where they
+/// aren't these.
+pub fn target_of_fields(alloc: Global, user: &[u8], seq: &[u8]) -> Result<Option<Target>, Memory>
     ensures { IfOk result (λ target. target ≡ calls.target_of_fields user.now seq.now) }
 {
     let Some(seq) = seq_field(seq) else {

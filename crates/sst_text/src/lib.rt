@@ -45,7 +45,7 @@ mod laws;
 mod lines;
 mod reply_line;
 
-pub use call_line::{call_name, call_of_line};
+pub use call_line::{call_name, call_of_line, target_of_fields};
 pub use entry_line::EntryRoom;
 pub use fields::seq_field;
 pub use laws::{

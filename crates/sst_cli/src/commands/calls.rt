@@ -72,7 +72,7 @@ fn print_all<O: Sink>(alloc: Global, reader: &BbtReader, calls: &[Call], out: &m
 }
 
 /// Prints what is wrong with a file.
-fn print_fault<O: Sink>(alloc: Global, out: &mut O, fault: BbtFault) -> Status
+pub fn print_fault<O: Sink>(alloc: Global, out: &mut O, fault: BbtFault) -> Status
     ensures { IsPrinted result (cut_by [] fault) (O.written out.old) (O.written out.new) (O.faults out.old) (O.faults out.new) }
 {
     match fault_line(alloc, fault) {

@@ -16,7 +16,7 @@ use sst_text::put_reply_line;
 use std::alloc::Global;
 
 /// How many bytes of text wait before they are put.
-const PIECE: usize = 65_536;
+pub const PIECE: usize = 65_536;
 
 /// Answers a Get with a cursor of its own.
 fn look_up<'r>(reader: &'r BbtReader, target: &Target) -> (Reply, Option<EntryView<'r>>)
@@ -90,7 +90,7 @@ fn put_answer(
 }
 
 /// Prints the text that waits, if it has so many bytes. After an error a prefix of it stands in the sink.
-fn print_waiting<O: Sink>(out: &mut O, text: &mut Vec<u8>, least: usize) -> Result<(), DevStop>
+pub fn print_waiting<O: Sink>(out: &mut O, text: &mut Vec<u8>, least: usize) -> Result<(), DevStop>
     ensures ok { OnOk result ((piece : List ℕ) × (text.old.items ≡ piece ++ text.new.items)
         × (O.written out.new ≡ append_known (O.written out.old) piece)) }
     ensures err { OnErr result ((n : ℕ)

@@ -13,40 +13,37 @@ use Rattle.sst_cli.proofs.program.run.Goals as goal
 
 pub returns-clause-headline_write : goal.returns-clause-headline_write
 returns-clause-headline_write g c = λ write entries words fits bytes left.
-    let carried = rw (c.command_of.ensures, is_write (map string_bytes c.args.words.now) write words) at c.carry_out.ensures in
-    written write _ _ c.carry_out.result (lines_text entries) entries carried.ends left (read_input-lines entries fits bytes)
+    let carried = rw (is_write (map string_bytes c.args.words.now) write words) at c.carry_out_words.ensures in
+    written write _ _ c.carry_out_words.result (lines_text entries) entries carried.ends left (read_input-lines entries fits bytes)
 
 pub returns-clause-headline_calls : goal.returns-clause-headline_calls
 returns-clause-headline_calls g c = λ name file entries calls words held stands few limits bytes left.
-    let carried = rw (c.command_of.ensures, is_calls (map string_bytes c.args.words.now) name words) at c.carry_out.ensures in
-    answered_as_list name _ _ c.carry_out.result file (calls_text calls) entries calls carried.ends held stands left (read_calls-text calls few limits bytes)
+    let carried = rw (is_calls (map string_bytes c.args.words.now) name words) at c.carry_out_words.ensures in
+    answered_as_list name _ _ c.carry_out_words.result file (calls_text calls) entries calls carried.ends held stands left (read_calls-text calls few limits bytes)
 
 pub returns-clause-ends : goal.returns-clause-ends
-returns-clause-ends g c = (rw c.command_of.ensures at c.carry_out.ensures).ends
+returns-clause-ends g c = c.carry_out_words.ensures.ends
 
 pub returns-clause-called : goal.returns-clause-called
 returns-clause-called g c =
-    let carried = rw c.command_of.ensures at c.carry_out.ensures in
-    called (behaviour (command_of (map string_bytes c.args.words.now))) _ _ c.carry_out.result carried.ends
+    called (behaviour (command_of (map string_bytes c.args.words.now))) _ _ c.carry_out_words.result c.carry_out_words.ensures.ends
 
 pub returns-clause-device : goal.returns-clause-device
 returns-clause-device g c = λ is.
-    let carried = rw c.command_of.ensures at c.carry_out.ensures in
-    device (behaviour (command_of (map string_bytes c.args.words.now))) _ _ c.carry_out.result carried.ends is
+    device (behaviour (command_of (map string_bytes c.args.words.now))) _ _ c.carry_out_words.result c.carry_out_words.ensures.ends is
 
 pub returns-clause-printed : goal.returns-clause-printed
 returns-clause-printed g c =
-    let carried = rw c.command_of.ensures at c.carry_out.ensures in
-    printed (behaviour (command_of (map string_bytes c.args.words.now))) _ _ c.carry_out.result carried.ends
+    printed (behaviour (command_of (map string_bytes c.args.words.now))) _ _ c.carry_out_words.result c.carry_out_words.ensures.ends
 
 pub returns-clause-changes : goal.returns-clause-changes
-returns-clause-changes g c = (rw c.command_of.ensures at c.carry_out.ensures).changes
+returns-clause-changes g c = c.carry_out_words.ensures.changes
 
 pub returns-clause-hides_none : goal.returns-clause-hides_none
-returns-clause-hides_none g c = c.carry_out.ensures.hides_none
+returns-clause-hides_none g c = c.carry_out_words.ensures.hides_none
 
 pub returns-clause-spares_folder : goal.returns-clause-spares_folder
-returns-clause-spares_folder g c = (rw c.command_of.ensures at c.carry_out.ensures).spares_folder
+returns-clause-spares_folder g c = c.carry_out_words.ensures.spares_folder
 
 pub returns-clause-spares_input : goal.returns-clause-spares_input
-returns-clause-spares_input g c = (rw c.command_of.ensures at c.carry_out.ensures).spares_input
+returns-clause-spares_input g c = c.carry_out_words.ensures.spares_input

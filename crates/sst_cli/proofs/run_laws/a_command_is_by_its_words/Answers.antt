@@ -13,6 +13,18 @@ returns-clause-is_write c = lemma.write_is
 pub returns-clause-is_calls : goal.returns-clause-is_calls
 returns-clause-is_calls c = lemma.calls_is
 
+pub returns-clause-get : goal.returns-clause-get
+returns-clause-get c = lemma.is_get
+
+pub returns-clause-is_get : goal.returns-clause-is_get
+returns-clause-is_get c = lemma.get_is
+
+pub returns-clause-scan : goal.returns-clause-scan
+returns-clause-scan c = lemma.is_scan
+
+pub returns-clause-is_scan : goal.returns-clause-is_scan
+returns-clause-is_scan c = lemma.scan_is
+
 pub returns-clause-none : goal.returns-clause-none
 returns-clause-none c = lemma.none_is
 

@@ -17,3 +17,6 @@ returns-clause-device c = lemma.device
 
 pub returns-clause-whole : goal.returns-clause-whole
 returns-clause-whole c = λ command. whole_text (behaviour command)
+
+pub returns-clause-file_only : goal.returns-clause-file_only
+returns-clause-file_only c = lemma.file_only

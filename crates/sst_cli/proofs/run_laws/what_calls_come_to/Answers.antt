@@ -1,5 +1,4 @@
 use Rattle.sst_cli.proofs.CallsRuns as lemma
-use Rattle.sst_cli.proofs.AnyRuns.{file_only}
 use Rattle.sst_cli.proofs.run_laws.what_calls_come_to.Goals as goal
 
 pub returns-clause-answered_as_list : goal.returns-clause-answered_as_list
@@ -37,6 +36,3 @@ returns-clause-input_only c = lemma.input_only
 
 pub returns-clause-statuses : goal.returns-clause-statuses
 returns-clause-statuses c = lemma.statuses
-
-pub returns-clause-file_only : goal.returns-clause-file_only
-returns-clause-file_only c = file_only

@@ -1,0 +1,17 @@
+use Rattle.std.proofs.Common.{refl, sym}
+use Rattle.sst_cli.specs.GetCommand.{way_got_text}
+use Rattle.sst_cli.specs.OpenFile.{done_with}
+use Rattle.sst_cli.proofs.FileOpened.{carries-opened, carries-damaged}
+use Rattle.sst_cli.proofs.commands.get.get.Goals as goal
+
+pub returns-in-Ok : goal.returns-in-Ok
+returns-in-Ok g c = λ left intake.
+    carries-opened c.args.line.name.now (λ blocks. done_with (way_got_text c.args.line.target blocks)) c.open.result c.in-Ok.reader _ _ c.print_found.result _ c.in-Ok.is
+    (rw (sym c.reader.view_is) c.reader.invariant) c.open.ensures.absent c.in-Ok.ensures.told c.open.ensures.folder.same_files c.open.ensures.folder.hides_none refl refl c.print_found.ensures
+
+pub returns-in-Err-Damage : goal.returns-in-Err-Damage
+returns-in-Err-Damage g c = λ left intake.
+    let told = rw c.in-Err-Damage.field-0-is at c.in-Err-Damage.is in
+    let reads = rw c.in-Err-Damage.field-0-is at c.in-Err-Damage.ensures.told in
+    carries-damaged c.args.line.name.now (λ blocks. done_with (way_got_text c.args.line.target blocks)) c.open.result c.in-Err-Damage.fault _ _ c.print_fault.result _ told
+    c.open.ensures.absent reads c.open.ensures.folder.same_files c.open.ensures.folder.hides_none refl refl c.print_fault.ensures
