@@ -1,5 +1,5 @@
 -- The words of a command line. These words are this project's own. For now there are four commands,
--- `write block OUT`, with the option `block=N`, `calls FILE`, `get FILE USER SEQ`, and `scan FILE`, with or without a SEQ.
+-- `write block OUT`, with options (Options), `calls FILE`, `get FILE USER SEQ`, and `scan FILE`, with or without a SEQ.
 -- Pinned by: words_that_are_no_command, good_sizes
 use Rattle.std.specs.Prelude.{ℕ, ◌&&◌, nat_le, if◌then◌else◌, List, [], ◌∷◌, length, take, drop, codes, Option, Some, None, option_and_then}
 use Rattle.std.specs.Option.{option_map}
@@ -7,28 +7,8 @@ use Rattle.std.specs.Str.{bytes_eq}
 use Rattle.sst_key.specs.declared.calls.Target.{Target}
 use Rattle.sst_text.specs.CallText.{target_of_fields}
 use Rattle.sst_text.specs.Texts.{seq_field}
+use Rattle.sst_cli.specs.Options.{options_of}
 use Rattle.sst_bbt_write.specs.declared.bbt_options.BbtOptions.{BbtOptions}
-
--- what stands behind this front of a word; nothing where the word has another front
-abbrev pub behind : List ℕ → List ℕ → Option (List ℕ)
-behind front word = if bytes_eq (take (length front) word) front then Some (drop (length front) word) else None
-
--- a number, if it is no less than one and no greater than another
-abbrev pub number_within : ℕ → ℕ → ℕ → Option ℕ
-number_within least most n = if nat_le least n && nat_le n most then Some n else None
-
--- the number of the option `block=N`, from 64 to 16,777,216, in decimal digits without sign or leading zeros
--- Pinned by: words_that_are_no_command, forty_entries
-unfoldable pub block_number : List ℕ → Option ℕ
-block_number word =
-    option_and_then (λ n. number_within 64 16777216 n) (option_and_then seq_field (behind (codes "block=") word))
-
--- the options of some words, each at most once; what isn't said has its default
--- Pinned by: words_that_are_no_command
-abbrev pub options_of : List (List ℕ) → Option BbtOptions
-options_of [] = Some (record { block_size = 4096 })
-options_of (word ∷ []) = option_map (λ n. record { block_size = n }) (block_number word)
-options_of (word ∷ next ∷ rest) = None
 
 -- a `write`: the name of the file that it makes, and the options
 -- Pinned by: words_that_are_no_command, worked_files, forty_entries

@@ -7,23 +7,12 @@ ghost use Rattle.sst_cli.specs.Words as line;
 ghost use Rattle.sst_cli.specs.Command.{seen, command_by};
 ghost use Rattle.sst_cli.specs.Command as commands;
 
+use crate::options::options_of;
 use sst_bbt_write::BbtOptions;
 use sst_key::Target;
 use sst_num::Memory;
 use sst_text::{seq_field, target_of_fields};
 use std::alloc::Global;
-
-/// What the word of the option for the size of data blocks begins with.
-const BLOCK: &[u8] = b"block=";
-
-/// The least and the most bytes after which a data block is ended, and how many these are where no option says it.
-///
-/// RocksDB: `BlockBasedTableOptions::block_size` in include/rocksdb/table.h.
-const LEAST_BLOCK: u64 = 64;
-
-const MOST_BLOCK: u64 = 16_777_216;
-
-const DEFAULT_BLOCK: u32 = 4096;
 
 /// A `write`: the name of the file that it makes, and the options.
 #[derive(Clone, Copy)]
@@ -136,17 +125,9 @@ fn write_line(words: &[String]) -> Option<WriteLine<'_>>
     ensures { option_map (λ l. record { name = l.name.now; options = l.options }) result ≡ line.write_line (map string_bytes words.now) }
 {
     match words {
-        [command, format, name] => {
+        [command, format, name, options @ ..] => {
             let name = named(command.as_str(), format.as_str(), name.as_str())?;
-            let options = BbtOptions {
-                block_size: DEFAULT_BLOCK,
-            };
-            Some(WriteLine { name, options })
-        }
-        [command, format, name, option] => {
-            let name = named(command.as_str(), format.as_str(), name.as_str())?;
-            let block_size = block_number(option.as_str().as_bytes())?;
-            let options = BbtOptions { block_size };
+            let options = options_of(options)?;
             Some(WriteLine { name, options })
         }
         _ => None,
@@ -167,33 +148,6 @@ fn named<'a>(command: &str, format: &str, name: &'a str) -> Option<&'a str>
         return None;
     }
     Some(name)
-}
-
-/// What stands behind a front of a word, if it has this front.
-fn behind<'a>(front: &[u8], word: &'a [u8]) -> Option<&'a [u8]>
-    ensures { option_map (λ rest. rest.now) result ≡ line.behind front.now word.entry.now }
-{
-    if word.len() < front.len() {
-        return None;
-    }
-    let (own, rest) = word.split_at(front.len());
-    if own == front { Some(rest) } else { None }
-}
-
-/// The number of the option for the size of data blocks, if the word is one.
-#[tactic(auto, unfolding(crate::specs::Words::block_number))]
-fn block_number(word: &[u8]) -> Option<u32>
-    ensures { result ≡ line.block_number word.now }
-{
-    let digits = behind(BLOCK, word)?;
-    let number = seq_field(digits)?;
-    if number < LEAST_BLOCK {
-        return None;
-    }
-    if number > MOST_BLOCK {
-        return None;
-    }
-    Some(number as u32)
 }
 
 /// The name of the file that a `calls` reads, where the words are such a line.

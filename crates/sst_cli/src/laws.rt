@@ -2,7 +2,7 @@
 ghost use Rattle.std.specs.Prelude.{◌≡◌, ℕ, ◌≤◌, List, length, Ok};
 ghost use Rattle.sst_key.specs.declared.calls.Call.{Call};
 ghost use Rattle.sst_key.specs.declared.entries.Entry.{Entry};
-ghost use Rattle.sst_bbt_write.specs.Written.{Fits, table_of};
+ghost use Rattle.sst_bbt_write.specs.Written.{Fits, MayBeChosen, table_of};
 ghost use Rattle.sst_bbt_write.specs.declared.bbt_options.BbtOptions.{BbtOptions};
 ghost use Rattle.sst_text.specs.EntryText.{AreBytes, lines_text};
 ghost use Rattle.sst_text.specs.CallText.{AreInLimits, AreOfBytes, calls_text};
@@ -44,12 +44,12 @@ pub fn what_a_text_says_fits()
 
 /// The file that is written for a list reads back as data blocks whose entries are that list.
 ///
-/// It holds of each list that is written: one that increases, whose entries are within their limits, and whose
+/// It holds of the options that may be chosen, and of each list that is written: one that increases, whose entries are within their limits, and whose
 /// weight is at most 2^28. The list with no entry is one.
 /// RocksDB: `BlockBasedTableBuilder` in table/block_based/block_based_table_builder.cc, and `BlockBasedTable::Open`
 /// in table/block_based/block_based_table_reader.cc.
 pub fn a_written_file_reads_back()
-    ensures { (options : BbtOptions) (entries : List Entry) → Fits entries
+    ensures { (options : BbtOptions) (entries : List Entry) → MayBeChosen options → Fits entries
         → (blocks : List IndexedBlock) × (blocks_read (table_of options entries) ≡ Ok (row_blocks_of blocks))
         × (joined blocks ≡ entries) }
 {}

@@ -109,7 +109,7 @@
 //! The files by what they are for, in reading order; no file uses one that uses it:
 //!
 //! ```text
-//! the program    status, command, program (`run`)
+//! the program    status, options, command, program (`run`)
 //! commands/      a file each: write (produce makes its file), calls
 //! input/         entries, calls, call_list; refusal
 //! output/        printing; answers, damage
@@ -121,6 +121,7 @@ mod command;
 mod commands;
 mod input;
 mod laws;
+mod options;
 mod output;
 mod program;
 mod run_laws;

@@ -8,9 +8,10 @@ ghost use Rattle.sst_device.specs.Folder.{Files, file_of};
 ghost use Rattle.sst_text.specs.CallText.{calls_text, AreInLimits, AreOfBytes};
 ghost use Rattle.sst_text.specs.EntryText.{lines_text, AreBytes};
 ghost use Rattle.sst_bbt_spec.specs.BlockBased.{BlockBased};
-ghost use Rattle.sst_bbt_write.specs.Written.{Fits};
+ghost use Rattle.sst_bbt_write.specs.Written.{Fits, MayBeChosen};
 ghost use Rattle.sst_cli.specs.Behaviour.{CallsFor, Carries, Ends, HasFailed, IsFault, MayPrint, tells, world};
 ghost use Rattle.sst_cli.specs.CallsCommand.{Answered};
+ghost use Rattle.sst_cli.specs.Command as commands;
 ghost use Rattle.sst_cli.specs.Command.{behaviour, command_of, seen};
 ghost use Rattle.sst_cli.specs.NoCommand.{no_command};
 ghost use Rattle.sst_cli.specs.Printed.{Prints};
@@ -155,6 +156,7 @@ fn carry_out<F: Folder, I: Intake, O: Sink>(
     input: &mut I,
     out: &mut O,
 ) -> Status
+    requires { (write : WriteLine) → option_map seen command ≡ Some (commands.Write write) → MayBeChosen write.options }
     ensures { Carries (behaviour (option_map seen command.entry))
         (world (F.held files.old) (I.left input.old) (O.written out.old) (F.faults files.old) (I.faults input.old) (O.faults out.old))
         (world (F.held files.new) (I.left input.new) (O.written out.new) (F.faults files.new) (I.faults input.new) (O.faults out.new))

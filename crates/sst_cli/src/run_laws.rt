@@ -7,6 +7,7 @@ ghost use Rattle.sst_key.specs.declared.calls.Call.{Call};
 ghost use Rattle.sst_key.specs.declared.entries.Entry.{Entry};
 ghost use Rattle.sst_device.specs.Folder.{Files, file_of, misses, put_file};
 ghost use Rattle.sst_text.specs.Taken.{IsTakenTo};
+ghost use Rattle.sst_bbt_write.specs.Written.{MayBeChosen};
 ghost use Rattle.sst_bbt_spec.specs.BlockBased.{BlockBased, Opens};
 ghost use Rattle.sst_bbt_spec.specs.Way.{IndexedBlock};
 ghost use Rattle.sst_bbt_read.specs.Opening.{blocks_read};
@@ -29,8 +30,8 @@ ghost use Rattle.sst_cli.specs.declared.status.Status.TheVariants as ends_with;
 
 /// Words are a command exactly where they are one by their places.
 ///
-/// `write`, `calls`, `get` and `scan`: words that are a `write` are that command, and no other, and so of the others. `none`: words that
-/// are no command are none of these. The words are this project's own.
+/// `write`, `calls`, `get` and `scan`: words that are a `write` are that command, and no other, and so of the others. `may`: the
+/// options of a `write` are such as may be chosen. `none`: words that are no command are none of these. The words are this project's own.
 pub fn a_command_is_by_its_words()
     ensures write { (words : List (List ℕ)) (write : WriteLine) → line.write_line words ≡ Some write → command_of words ≡ Some (Command.Write write) }
     ensures calls { (words : List (List ℕ)) (name : List ℕ) → line.calls_name words ≡ Some name → command_of words ≡ Some (Command.Calls name) }
@@ -40,6 +41,7 @@ pub fn a_command_is_by_its_words()
     ensures is_get { (words : List (List ℕ)) (get : GetLine) → command_of words ≡ Some (Command.Get get) → line.get_line words ≡ Some get }
     ensures scan { (words : List (List ℕ)) (scan : ScanLine) → line.scan_line words ≡ Some scan → command_of words ≡ Some (Command.Scan scan) }
     ensures is_scan { (words : List (List ℕ)) (scan : ScanLine) → command_of words ≡ Some (Command.Scan scan) → line.scan_line words ≡ Some scan }
+    ensures may { (words : List (List ℕ)) (write : WriteLine) → line.write_line words ≡ Some write → MayBeChosen write.options }
     ensures none { (words : List (List ℕ)) → command_of words ≡ None
         → (line.out_name words ≡ None) × (line.calls_name words ≡ None) × (line.get_line words ≡ None) × (line.scan_line words ≡ None) }
     ensures neither { (words : List (List ℕ)) → line.out_name words ≡ None → line.calls_name words ≡ None → line.get_line words ≡ None

@@ -2,6 +2,7 @@
 //!
 //! For now the whole file is made in memory first.
 ghost use Rattle.std.specs.Prelude.{◌≡◌, ◌⊎◌, ℕ, List, Some, Err, IfOk};
+ghost use Rattle.sst_bbt_write.specs.Written.{MayBeChosen};
 ghost use Rattle.sst_device.specs.Faults.{Rose};
 ghost use Rattle.sst_device.specs.Folder.{put_file};
 ghost use Rattle.sst_cli.specs.InputReading.{read_input};
@@ -24,6 +25,7 @@ pub fn produce<F: Folder, I: Intake>(
     files: &mut F,
     input: &mut I,
 ) -> Result<u64, InputStop>
+    requires { MayBeChosen line.options }
     ensures ok { IfOk result (λ count. HasProduced count (record { name = line.entry.name.now; options = line.entry.options }) (F.held files.old) (F.held files.new)
         (I.left input.old) (I.left input.new)) }
     ensures refused { (refusal : Refusal) → result ≡ Err (InputStop.Refused refusal)

@@ -1,5 +1,6 @@
 //! The command that writes a file of the entries of its input.
 ghost use Rattle.std.specs.Prelude.{◌≡◌};
+ghost use Rattle.sst_bbt_write.specs.Written.{MayBeChosen};
 ghost use Rattle.sst_cli.specs.Behaviour.{Carries, world};
 ghost use Rattle.sst_cli.specs.Printed.{IsPrinted};
 ghost use Rattle.sst_cli.specs.WriteCommand.{done_text, write_command};
@@ -20,6 +21,7 @@ pub fn write<F: Folder, I: Intake, O: Sink>(
     input: &mut I,
     out: &mut O,
 ) -> Status
+    requires { MayBeChosen line.options }
     ensures { Carries (write_command (record { name = line.entry.name.now; options = line.entry.options }))
         (world (F.held files.old) (I.left input.old) (O.written out.old) (F.faults files.old) (I.faults input.old) (O.faults out.old))
         (world (F.held files.new) (I.left input.new) (O.written out.new) (F.faults files.new) (I.faults input.new) (O.faults out.new))

@@ -1,4 +1,6 @@
-use Rattle.std.proofs.Common.{refl}
+use Rattle.std.proofs.Common.{Some, refl, ap, ◌∙◌}
+use Rattle.std.specs.Option.{option_map}
+use Rattle.sst_cli.specs.Command.{seen}
 use Rattle.sst_cli.specs.GetCommand.{get_command}
 use Rattle.sst_cli.specs.ScanCommand.{scan_command}
 use Rattle.sst_cli.specs.NoCommand.{no_command}
@@ -32,3 +34,9 @@ returns-in-None g c =
     let none = c.in-None.is in
     rw none (carries-spared no_command _ _ c.print_usage.result _ _ _ _ refl refl
     (c.print_usage.ensures (g.F.Folder.held c.args.files.now) (g.I.Intake.left c.args.input.now) (g.F.Folder.faults c.args.files.now) (g.I.Intake.faults c.args.input.now)))
+
+pub write-requires : goal.write-requires
+write-requires g c =
+    let step = c.in-Some-Write in
+    let whole = step.is ∙ ap Some step.field-0-is in
+    c.requires (record { name = step.line.name.now; options = step.line.options }) (ap (option_map seen) whole)

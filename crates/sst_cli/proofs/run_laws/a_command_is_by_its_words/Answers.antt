@@ -1,4 +1,5 @@
 use Rattle.sst_cli.proofs.CommandWords as lemma
+use Rattle.sst_cli.proofs.OptionsSaid.{line-may}
 use Rattle.sst_cli.proofs.run_laws.a_command_is_by_its_words.Goals as goal
 
 pub returns-clause-write : goal.returns-clause-write
@@ -30,3 +31,6 @@ returns-clause-none c = lemma.none_is
 
 pub returns-clause-neither : goal.returns-clause-neither
 returns-clause-neither c = lemma.is_none
+
+pub returns-clause-may : goal.returns-clause-may
+returns-clause-may c = line-may
