@@ -12,7 +12,7 @@
 //! - [`files`]: lists written as one block, byte for byte.
 //! - [`written_file`]: what stands after the index of each file that is written.
 //! - [`many_blocks`]: lists written as many data blocks, and answered from.
-//! - [`block_option`]: the option for the size of data blocks.
+//! - [`write_options`]: the options of a `write`.
 //! - [`refused`]: lines that are refused, each for its reason.
 //! - [`limits`]: lines, keys, values and lists at their limits.
 //! - [`weight`]: the weight of a list, on the writer alone.
@@ -23,7 +23,7 @@
 #![tactic(auto)]
 
 #[cfg(test)]
-mod block_option;
+mod write_options;
 #[cfg(test)]
 mod files;
 #[cfg(test)]

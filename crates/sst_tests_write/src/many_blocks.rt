@@ -72,7 +72,7 @@ static BEHIND_VERSIONS: Behind = Behind {
 };
 
 /// The lines of the three versions.
-fn version_lines(alloc: Global) -> Result<String, Fail> {
+pub(crate) fn version_lines(alloc: Global) -> Result<String, Fail> {
     let mut lines = String::new(alloc);
     let value = VALUE;
     for number in ["9", "5", "2"] {

@@ -11,7 +11,7 @@ use std::test::Fail;
 const LINE: &str = "61 1 P 78\n";
 
 /// Words that are no command.
-static NO_COMMANDS: [&[&str]; 25] = [
+static NO_COMMANDS: [&[&str]; 27] = [
     &[],
     &["write"],
     &["write", "block"],
@@ -25,6 +25,8 @@ static NO_COMMANDS: [&[&str]; 25] = [
     &["write", "block", NAME, "block=64", "block=64"],
     &["write", "block", NAME, "block=64", "block=4096"],
     &["write", "block", NAME, "block=64", ""],
+    &["write", "block", NAME, "restart=2", "block=64", "restart=2"],
+    &["write", "block", NAME, "index-restart=1", "restart=1", "index-restart=16"],
     // In another place.
     &["write", "block=64", "block", NAME],
     &["write", "block", "", "block=64"],
@@ -44,7 +46,13 @@ static NO_COMMANDS: [&[&str]; 25] = [
 ];
 
 /// Words that are no option.
-static NO_OPTIONS: [&str; 30] = [
+static NO_OPTIONS: [&str; 36] = [
+    "restart=0",
+    "restart=65537",
+    "restart=016",
+    "index-restart=0",
+    "index-restart=65537",
+    "index_restart=1",
     // Past the limits: by one, by much, 2^32 + 64, 2^64 + 64.
     "block=63",
     "block=0",

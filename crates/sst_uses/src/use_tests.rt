@@ -13,7 +13,11 @@ use std::test::Fail;
 const NAME: &str = "table";
 
 /// The size of data blocks that RocksDB takes where no other is chosen.
-const OPTIONS: BbtOptions = BbtOptions { block_size: 4096 };
+const OPTIONS: BbtOptions = BbtOptions {
+    block_size: 4096,
+    restart: 16,
+    index_restart: 1,
+};
 
 /// The key `a`, which has the value `x` since 2.
 fn put_of_a(alloc: Global) -> Result<Entry, Memory>

@@ -3,7 +3,7 @@ ghost use Rattle.std.specs.Prelude.{◌≡◌, ◌<◌, ◌^◌, All, Err, IfOk}
 ghost use Rattle.sst_key.specs.declared.entries.Entry.{Entry as entry_type};
 ghost use Rattle.sst_key.specs.declared.faults.WriteFault.{WriteFault as fault_type};
 ghost use Rattle.sst_key.specs.Entry.{entry_of};
-ghost use Rattle.sst_bbt_write.specs.Written.{Written};
+ghost use Rattle.sst_bbt_write.specs.Written.{MayBeChosen, Written};
 ghost use Rattle.sst_uses.specs.Uses.{IsRefused};
 
 use sst_bbt_write::{BbtOptions, BbtWriter};
@@ -13,13 +13,14 @@ use std::alloc::Global;
 
 /// The bytes of the block-based table that is written for the entries, with these options.
 ///
-/// The sequence numbers are below 2^56. Entries that aren't in order or pass a limit are refused: the first of them, for
+/// The restart intervals are from 1 to 65,536, and the sequence numbers below 2^56. Entries that aren't in order or pass a limit are refused: the first of them, for
 /// its first reason.
 pub fn write_table(
     alloc: Global,
     options: BbtOptions,
     entries: &[Entry],
 ) -> Result<Vec<u8>, Refused<WriteFault>>
+    requires chosen { MayBeChosen options }
     requires seqs { All (λ (e : entry_type). e.seq < 2 ^ 56) entries.now }
     ensures written { IfOk result (λ file. Written options file.items entries.now) }
     ensures refused { (fault : fault_type) → result ≡ Err (Refused.Cause fault) → IsRefused entries.now fault }

@@ -1,0 +1,170 @@
+//! The options of `sst write block OUT`: `block=N`, where N is 64 to 16,777,216, `restart=N` and `index-restart=N`, where N is 1
+//! to 65,536, in any order.
+//!
+//! The words are this project's own. RocksDB: `BlockBasedTableOptions::block_size`, `block_restart_interval` and
+//! `index_block_restart_interval` in include/rocksdb/table.h.
+use crate::files::written_file;
+use crate::many_blocks::version_lines;
+use sst_cli::Status;
+use sst_tests_shared::worked_run::{
+    NAME, NONE_FAILS, holds, other_is_as_it_was, printed, put_hex, run_on, still_to_come,
+};
+use std::alloc::Global;
+use std::process::Abort;
+use std::test::Fail;
+
+/// A good input.
+const LINE: &str = "61 1 P 78\n";
+
+/// Options that make the same file of one entry.
+static GOOD: [&[&str]; 13] = [
+    &["block=64"],
+    &["block=65"],
+    &["block=4096"],
+    &["block=16777215"],
+    &["block=16777216"],
+    &["restart=1"],
+    &["restart=65536"],
+    &["index-restart=1"],
+    &["index-restart=65536"],
+    &["restart=2", "index-restart=3"],
+    &["block=64", "restart=2", "index-restart=3"],
+    &["index-restart=3", "restart=2", "block=64"],
+    &["restart=2", "block=64", "index-restart=3"],
+];
+
+// One row makes one block with one restart, whatever the options are.
+#[test]
+fn good_options(rt: HostRuntime) -> Result<(), Fail> {
+    let file = written_file(rt.alloc())?;
+    for options in GOOD {
+        let mut words = Vec::new(rt.alloc());
+        words.extend_from_slice(&["write", "block", NAME])?;
+        words.extend_from_slice(options)?;
+        let mut ran = run_on(rt.alloc(), &words, LINE.as_bytes(), NONE_FAILS)?;
+        assert_eq!(rt; ran.status, Status::Done, "with {options:?}");
+        assert!(rt; printed(&ran, "wrote 1\n"), "with {options:?}");
+        assert!(rt; holds(&ran, NAME, &file), "with {options:?}");
+        assert!(rt; other_is_as_it_was(&ran), "with {options:?}");
+        assert!(rt; still_to_come(&mut ran, ""), "with {options:?}");
+    }
+    Ok(())
+}
+
+/// The words of a `write`, where a part of its file begins, and the part in hex digits.
+type Part = (&'static [&'static str], usize, &'static [&'static str]);
+
+/// Three keys, of which each begins with the one before.
+const NESTED: &str = "61 1 P 78\n6161 1 P 78\n616161 1 P 78\n";
+
+/// The data block of the three keys: with a restart at each row, and at each second.
+static NESTED_PARTS: [Part; 2] = [
+    (
+        &["write", "block", NAME, "restart=1"],
+        0,
+        &[
+            "00090161010100000000000078000a016161010100000000000078000b01616161010100000000000078",
+            "000000000d0000001b00000003000000",
+            "001b182acc",
+        ],
+    ),
+    (
+        &["write", "block", NAME, "restart=2"],
+        0,
+        &[
+            "0009016101010000000000007801090161010100000000000078000b01616161010100000000000078",
+            "000000001a00000002000000",
+            "00647c1ac9",
+        ],
+    ),
+];
+
+/// The index block of three versions of the key 6b, each in a block of its own: its rows share what their keys have in common.
+static VERSIONS_PARTS: [Part; 1] = [(
+    &["write", "block", NAME, "block=64", "index-restart=16"],
+    255,
+    &[
+        "0009026b0109000000000000005002070205000000000000555002070302000000000000aa0150",
+        "0000000001000000",
+        "00bdb1b67f",
+    ],
+)];
+
+/// The files that are written for the lines have these parts.
+fn assert_parts(
+    rt: &impl Abort,
+    alloc: Global,
+    lines: &[u8],
+    parts: &[Part],
+) -> Result<(), Fail> {
+    for &(words, start, digits) in parts {
+        let ran = run_on(alloc, words, lines, NONE_FAILS)?;
+        let mut part = Vec::new(alloc);
+        put_hex(alloc, &mut part, digits)?;
+        match ran.folder.file(NAME) {
+            Some(file) => {
+                let there = file.get(start..).and_then(|rest| rest.get(..part.len()));
+                assert_eq!(rt; there, Some(part.as_slice()), "by {words:?}");
+            }
+            None => panic!(rt; "no file by {words:?}"),
+        }
+    }
+    Ok(())
+}
+
+// The bytes are those of an independent program.
+#[test]
+fn files_of_other_intervals(rt: HostRuntime) -> Result<(), Fail> {
+    assert_parts(&rt, rt.alloc(), NESTED.as_bytes(), &NESTED_PARTS)?;
+    let lines = version_lines(rt.alloc())?;
+    assert_parts(&rt, rt.alloc(), lines.as_str().as_bytes(), &VERSIONS_PARTS)
+}
+
+/// Words that name OUT as an option is spelled.
+static NAMED: [&[&str]; 2] = [
+    &["write", "block", "block=64"],
+    &["write", "block", "block=64", "block=64"],
+];
+
+// The third word is the name of OUT, whatever it spells.
+#[test]
+fn a_file_with_the_name_of_an_option(rt: HostRuntime) -> Result<(), Fail> {
+    let file = written_file(rt.alloc())?;
+    for words in NAMED {
+        let ran = run_on(rt.alloc(), words, LINE.as_bytes(), NONE_FAILS)?;
+        assert_eq!(rt; ran.status, Status::Done, "on {words:?}");
+        assert!(rt; printed(&ran, "wrote 1\n"), "on {words:?}");
+        assert!(rt; holds(&ran, "block=64", &file), "on {words:?}");
+        assert!(rt; ran.folder.file(NAME).is_none(), "on {words:?}");
+        assert!(rt; other_is_as_it_was(&ran), "on {words:?}");
+    }
+    Ok(())
+}
+
+/// The length of the file of an entry with a value of so many hex digits and one more entry, by these words.
+fn length_with(alloc: Global, digits: usize, words: &[&str]) -> Result<Option<usize>, Fail> {
+    let value = vec![in alloc; b'7'; digits]?;
+    let mut lines = Vec::new(alloc);
+    lines.extend_from_slice(b"61 1 P ")?;
+    lines.extend_from_slice(&value)?;
+    lines.extend_from_slice(b"\n62 1 P 79\n")?;
+    let ran = run_on(alloc, words, &lines, NONE_FAILS)?;
+    match ran.folder.file(NAME) {
+        Some(file) => Ok(Some(file.len())),
+        None => Ok(None),
+    }
+}
+
+// The first block has 4095 bytes, or 4096: without the option it is ended by the second alone. The lengths are those of
+// an independent program.
+#[test]
+fn the_size_without_an_option(rt: HostRuntime) -> Result<(), Fail> {
+    let plain = ["write", "block", NAME];
+    let less = ["write", "block", NAME, "block=4095"];
+    let more = ["write", "block", NAME, "block=4097"];
+    assert_eq!(rt; length_with(rt.alloc(), 8148, &less)?, Some(4525));
+    assert_eq!(rt; length_with(rt.alloc(), 8148, &plain)?, Some(4493));
+    assert_eq!(rt; length_with(rt.alloc(), 8150, &more)?, Some(4494));
+    assert_eq!(rt; length_with(rt.alloc(), 8150, &plain)?, Some(4526));
+    Ok(())
+}
