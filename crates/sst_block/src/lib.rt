@@ -72,6 +72,6 @@ pub use fault::BlockFault;
 pub use iter::BlockIter;
 pub use laws::{
     a_block_has_one_list_of_rows, chosen_block_stands_for_its_rows, each_group_begins_whole,
-    first_fault_is_first, reading_finds_exactly_the_rows,
+    first_fault_is_first, index_rows_are_one, reading_finds_exactly_the_rows,
 };
 pub use row_form::RowForm;

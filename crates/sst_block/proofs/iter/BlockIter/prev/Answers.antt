@@ -13,11 +13,11 @@ overflow_sub-start c =
 
 pub returns-then-start-eq0-clause-moves : goal.returns-then-start-eq0-clause-moves
 returns-then-start-eq0-clause-moves c = λ rows i w.
-    walks-of _ _ _ _ _ _ (prev-first c.args.self.now _ w.form w.bytes rows w.block i w.walks c.if-start-eq0.true (record { rows = refl; places = refl; count = refl }) refl)
+    walks-of _ _ _ _ _ _ (prev-first c.args.self.now _ w.form w.bytes rows w.block i w.walks c.if-start-eq0.true (record { form = refl; rows = refl; places = refl; count = refl }) refl)
 
 pub returns-then-start-eq0-clause-within : goal.returns-then-start-eq0-clause-within
 returns-then-start-eq0-clause-within c = λ form bytes rows b i w.
-    prev-first c.args.self.now _ form bytes rows b i w c.if-start-eq0.true (record { rows = refl; places = refl; count = refl }) refl
+    prev-first c.args.self.now _ form bytes rows b i w c.if-start-eq0.true (record { form = refl; rows = refl; places = refl; count = refl }) refl
 
 pub returns-then-start-eq0-clause-tells : goal.returns-then-start-eq0-clause-tells
 returns-then-start-eq0-clause-tells c = λ rows i w.
