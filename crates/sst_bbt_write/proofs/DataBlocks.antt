@@ -31,7 +31,7 @@ indexed block = record { separator = last_key [] (rows_of block); entries = bloc
 -- a data block stands for its entries
 data_block-is : (options : BbtOptions) (entries : List Entry) → MayBeChosen options → Fits entries → Block Entries (data_block options entries) (rows_of entries)
 data_block-is options entries chosen fits =
-    block_of_is_block Entries options.restart (rows_of entries) (let least = chosen.restart_least in omega (arith, least)) (rows_of-forms entries fits.limits) (rows_of-ordered entries fits.limits fits.ordered) (data_block-short options entries fits)
+    block_of_is_block Entries options.restart (rows_of entries) (let least = chosen.restart_least in omega (arith, least)) (rows_of-forms entries fits.limits) (rows_of-ordered entries fits.limits fits.ordered) tt (data_block-short options entries fits)
 
 -- the index row of a block that stands in a file leads to it
 row-leads : (options : BbtOptions) (file front rest : List ℕ) (at end : ℕ) (block : List Entry) → MayBeChosen options → 0 < length block → Fits block → file ≡ front ++ (frame_of (data_block options block) ++ rest)

@@ -94,11 +94,11 @@ row-is w cut entries bytes key value size kept some key_is value_is long =
 -- the index takes it
 pub index_takes : (w : BbtWriter) (cut : Blocks) (entries : List Entry) (bytes key value : List ℕ) (size : ℕ) → Keeps w cut entries bytes → 0 < w.rows
     → key ≡ w.last.items → value ≡ handle_spelling (record { offset = w.data_size; size = size }) → size ≡ length (data_block w.options cut.current)
-    → CanAdd w.index (record { key = key; value = value })
+    → CanAdd w.index (record { key = key; value = value }) []
 index_takes w cut entries bytes key value size kept some key_is value_is long =
     let end = kept-end w cut entries bytes kept some in
-    subst (λ (row : Row). CanAdd w.index row) (sym (row-is w cut entries bytes key value size kept some key_is value_is long))
-    (can_add w.index (Index false false) w.options.index_restart (index_rows w.options 0 cut.ended) (index_row w.options (length (data_part w.options cut.ended)) cut.current) kept.index end.form end.ordered end.room)
+    subst (λ (row : Row). CanAdd w.index row []) (sym (row-is w cut entries bytes key value size kept some key_is value_is long))
+    (can_add w.index (Index false false) w.options.index_restart (index_rows w.options 0 cut.ended) (index_row w.options (length (data_part w.options cut.ended)) cut.current) [] refl kept.index end.form end.ordered end.room)
 
 -- the lengths fit their numbers
 pub record HasSpace (w : BbtWriter) (size : ℕ) : Type 0 where

@@ -28,7 +28,7 @@ block-fits w cut entries bytes e kept fits =
 
 -- the block takes its row
 pub block_takes : (w : BbtWriter) (cut : Blocks) (entries : List Entry) (bytes : List ℕ) (e : Entry) (key value : List ℕ) → Keeps w cut entries bytes
-    → Fits (entries ++ e ∷ []) → key ≡ key_of e → value ≡ e.value → CanAdd w.block (record { key = key; value = value })
+    → Fits (entries ++ e ∷ []) → key ≡ key_of e → value ≡ e.value → CanAdd w.block (record { key = key; value = value }) []
 block_takes w cut entries bytes e key value kept fits key_is value_is =
     data_takes w.block w.options.restart cut.current e key value kept.block (block-fits w cut entries bytes e kept fits) key_is value_is
 

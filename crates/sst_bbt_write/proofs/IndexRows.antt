@@ -62,5 +62,5 @@ pub index_block-is : (options : BbtOptions) (blocks : List (List Entry)) → May
 index_block-is options blocks chosen some fits =
     block_of_is_block (Index false false) options.index_restart (index_rows options 0 blocks) (let least = chosen.index_restart_least in omega (arith, least))
     (index_rows-forms options 0 blocks some fits (omega (arith, data_part-le options blocks (filled blocks some), fits.light)))
-    (index-ordered options 0 blocks (filled blocks some) fits.ordered fits.limits)
+    (index-ordered options 0 blocks (filled blocks some) fits.ordered fits.limits) tt
     (omega (arith, index_block-short options blocks some fits))

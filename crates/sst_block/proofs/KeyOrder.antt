@@ -134,4 +134,4 @@ row-long Entries row is = λ e.
 row-long Names row is = λ e. cc
 row-long (Index true delta) row is = λ e. cc
 row-long (Index false false) row is = λ e. is.1.0
-row-long (Index false true) row is = λ e. absurd is.1
+row-long (Index false true) row is = λ e. is.1

@@ -11,7 +11,7 @@ pub mod Kept
 pub mod Meeting
 pub mod Parts
 pub mod Pass
-pub mod RowLengths
+pub mod Varints
 pub mod OneReading
 pub mod RestartFaults
 pub mod RestartRules
@@ -21,7 +21,9 @@ pub mod RowFaults
 pub mod RowForms
 pub mod RowsCopied
 pub mod RowsRead
-pub mod Spellings
+pub mod Said
+pub mod Leading
+pub mod Putting
 pub mod Size
 pub mod Steps
 pub mod Walking

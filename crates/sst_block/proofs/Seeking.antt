@@ -47,9 +47,9 @@ key-before it form bytes rows b place target w is =
     let s = stands-row it form bytes rows b place w is in
     let here : is_before form target (option_and_then (slice_get rows) place) ≡ is_row_before form target s.row =
     ap (λ (p : Option ℕ). is_before form target (option_and_then (slice_get rows) p)) s.place_is ∙ ap (is_before form target) s.at in
-    let order = w.orders.order it.key target in
+    let form_is = w.form_is in
     let key = s.key in
-    ap is_lt order ∙ ap (λ (k : List ℕ). is_lt (key_cmp form k target)) key ∙ sym here
+    ap (λ (f : RowForm). is_lt (key_cmp f it.key target)) form_is ∙ ap (λ (k : List ℕ). is_lt (key_cmp form k target)) key ∙ sym here
 
 -- the place of a number, looked up
 pub at-place : (rows : List Row) (k : ℕ) → option_and_then (slice_get rows) (place_of rows k) ≡ slice_get rows k
@@ -165,7 +165,7 @@ pub record Steps (form : RowForm) (bytes : List ℕ) (rows : List Row) (b : Bloc
   pub told_is : told ≡ nat_lt (m + 1) (length rows)
 
 pub steps : (old new : BlockIter) (told : Bool) (target : List ℕ) (form : RowForm) (bytes : List ℕ) (rows : List Row) (b : Block form bytes rows) (m : ℕ)
-    → WalksIn old form bytes rows b (place_of rows m) → IsTarget form target → Tells old target true → StaysIn old new → Moves new told old.key old.after.now
+    → WalksIn old form bytes rows b (place_of rows m) → IsTarget form target → Tells old target true → StaysIn old new → Moves new told old.form old.handle old.key old.after.now
     → Steps form bytes rows b old new told target
 steps old new told target form bytes rows b m w long tells stays moves =
     let passed = later-counts form bytes rows b target m (tested-at old target true tells form bytes rows b m w long) in
@@ -176,7 +176,7 @@ steps old new told target form bytes rows b m w long tells stays moves =
     record { m = m; here = here; passed = passed; next = moved.0; told_is = moved.1 }
 
 pub came-more : (began old new : BlockIter) (told : Bool) (target : List ℕ) → CameTo began old target → Tells old target true → StaysIn old new
-    → Moves new told old.key old.after.now → CameTo began new target
+    → Moves new told old.form old.handle old.key old.after.now → CameTo began new target
 came-more began old new told target came tells stays moves = λ form bytes rows b k w low long.
     let here = came form bytes rows b k w low long in
     let s = steps old new told target form bytes rows b here.0 here.1 long tells stays moves in
@@ -184,7 +184,7 @@ came-more began old new told target came tells stays moves = λ form bytes rows 
     (s.m + 1, s.next, omega (arith, passed))
 
 pub came-shorter : (began old new : BlockIter) (told : Bool) (target : List ℕ) → CameTo began old target → Tells old target true → StaysIn old new
-    → Moves new told old.key old.after.now → told ≡ true
+    → Moves new told old.form old.handle old.key old.after.now → told ≡ true
     → (form : RowForm) (bytes : List ℕ) (rows : List Row) (b : Block form bytes rows) (k : ℕ)
     → WalksIn began form bytes rows b (place_of rows k) → k ≤ rows_before form target rows → IsTarget form target
     → length new.after.now < length old.after.now
@@ -219,7 +219,7 @@ came-end began it target came tells form bytes rows b k w low long =
     ends-at it it.stands target form bytes rows b m (omega (arith, most, here.2)) here.1 (stands-told it form bytes rows b m here.1)
 
 pub came-none : (began old new : BlockIter) (told : Bool) (target : List ℕ) → CameTo began old target → Tells old target true → StaysIn old new
-    → Moves new told old.key old.after.now → told ≡ false
+    → Moves new told old.form old.handle old.key old.after.now → told ≡ false
     → (form : RowForm) (bytes : List ℕ) (rows : List Row) (b : Block form bytes rows) (k : ℕ)
     → WalksIn began form bytes rows b (place_of rows k) → k ≤ rows_before form target rows → IsTarget form target → EndsThere new false form bytes rows b target
 came-none began old new told target came tells stays moves is form bytes rows b k w low long =

@@ -1,16 +1,19 @@
 //! The walk over the rows of a block.
-ghost use Rattle.std.specs.Prelude.{◌≡◌, ◌⊎◌, ℕ, ◌+◌, ◌-◌, ◌*◌, ◌<◌, ◌≤◌, nat_lt, true, false, List, [], length, drop, Option, None, Some, slice_get, option_and_then};
+ghost use Rattle.std.specs.Prelude.{◌≡◌, ◌⊎◌, ℕ, ◌+◌, ◌-◌, ◌*◌, ◌<◌, ◌≤◌, nat_lt, Bool, true, false, List, [], length, drop, Option, None, Some, slice_get, option_and_then};
 ghost use Rattle.sst_block.specs.declared.row_form.RowForm as forms;
-ghost use Rattle.sst_block.specs.Block.{Row, Spelled, Block, SpellsLengths};
+ghost use Rattle.sst_block.specs.Block.{Row, Spelled, Block};
+ghost use Rattle.sst_block.specs.Block.{no_handle};
+ghost use Rattle.sst_block.specs.declared.row_form.RowForm.TheVariants.{Index};
 ghost use Rattle.sst_block.specs.BlockReading.{row_at};
+ghost use Rattle.sst_block.specs.IndexRows.{IndexPair, SayPairs};
 ghost use Rattle.sst_block.specs.Seek.{CanSeek, IsTarget, MayBegin, is_before, rows_before};
 ghost use Rattle.sst_block.specs.Iter.{Walks, WalksIn, HasTaken, StaysIn, Reaches, BeginsBefore, place_of, place_before, start_of, restart_at, bytes_behind};
 
 use crate::check::{NUMBER_LENGTH, split_whole};
-use crate::row::{key_cmp, row_lengths, split_row};
+use crate::row::{NO_HANDLE, handle_after, key_cmp, row_lengths, split_row};
 use crate::row_form::RowForm;
 use sst_key::KeyRoom;
-use sst_num::fixed32;
+use sst_num::{Handle, fixed32};
 
 /// A walk over the rows of a block that was checked. It stands at a row or nowhere.
 ///
@@ -35,6 +38,8 @@ pub struct BlockIter<'b> {
     value: &'b [u8],
     /// The key of the row where it stands.
     key: KeyRoom,
+    /// In an index, the handle that the row says where it stands.
+    handle: Handle,
     /// It stands at a row.
     stands: bool,
 }
@@ -46,7 +51,7 @@ impl<'b> BlockIter<'b> {
     pub fn start(block: &'b [u8], form: RowForm, room: KeyRoom) -> BlockIter<'b>
         requires { (rows : List Row) × Block form block.now rows }
         ensures walks { (rows : List Row) → Block form block.now rows → Walks result rows None }
-        ensures within { SpellsLengths form → (rows : List Row) (b : Block form block.now rows) → WalksIn result form block.now rows b None }
+        ensures within { (rows : List Row) (b : Block form block.now rows) → WalksIn result form block.now rows b None }
     {
         let parts = split_whole(block);
         let rows = parts.rows;
@@ -59,6 +64,7 @@ impl<'b> BlockIter<'b> {
             after: rows,
             value: rows,
             key: room,
+            handle: NO_HANDLE,
             stands: false,
         }
     }
@@ -73,6 +79,7 @@ impl<'b> BlockIter<'b> {
     {
         self.after = self.rows;
         self.key.set(0, &[]);
+        self.handle = NO_HANDLE;
         self.step()
     }
 
@@ -103,6 +110,18 @@ impl<'b> BlockIter<'b> {
             → (row : Row) × (slice_get rows i ≡ Some row) × (result.now ≡ row.value) }
     {
         self.value
+    }
+
+    /// The handle of the row where it stands, of an index block: whole, also where the row has the difference from the one
+    /// before. RocksDB: `IndexBlockIter::value` in table/block_based/block.h.
+    pub fn handle(&self) -> Handle
+        requires { (user_key delta : Bool) × (bytes : List ℕ) × (rows : List Row) × (b : Block (Index user_key delta) bytes rows) × (i : ℕ)
+            × WalksIn self.now (Index user_key delta) bytes rows b (Some i) }
+        ensures { (user_key delta : Bool) (bytes : List ℕ) (rows : List Row) (b : Block (Index user_key delta) bytes rows) (i : ℕ) (pairs : List IndexPair)
+            → WalksIn self.now (Index user_key delta) bytes rows b (Some i) → SayPairs delta no_handle b.spelled pairs
+            → (pair : IndexPair) × (slice_get pairs i ≡ Some pair) × (result ≡ pair.handle) }
+    {
+        self.handle
     }
 
     /// Where the row begins in the block where it stands.
@@ -294,14 +313,15 @@ impl<'b> BlockIter<'b> {
     /// Goes to the row that begins at this place and shares nothing, if there is one.
     fn go_to(&mut self, start: usize) -> bool
         requires { start ≤ length self.old.rows.now }
-        ensures none { row_at [] (drop start self.old.rows.now) ≡ None → (result ≡ false) × (self.new.stands ≡ false) }
-        ensures some { (s : Spelled) (used : ℕ) → row_at [] (drop start self.old.rows.now) ≡ Some (s, used)
-            → (result ≡ true) × HasTaken self.new s used (drop start self.old.rows.now) }
+        ensures none { row_at self.old.form no_handle [] (drop start self.old.rows.now) ≡ None → (result ≡ false) × (self.new.stands ≡ false) }
+        ensures some { (s : Spelled) (used : ℕ) → row_at self.old.form no_handle [] (drop start self.old.rows.now) ≡ Some (s, used)
+            → (result ≡ true) × HasTaken self.new self.old.form no_handle s used (drop start self.old.rows.now) }
         ensures stays { StaysIn self.old self.new }
     {
         let (_, from) = self.rows.split_at(start);
         self.after = from;
         self.key.set(0, &[]);
+        self.handle = NO_HANDLE;
         self.step()
     }
 
@@ -319,12 +339,12 @@ impl<'b> BlockIter<'b> {
 
     /// Goes to the row that comes after, if there is one.
     fn step(&mut self) -> bool
-        ensures none { row_at self.old.key self.old.after.now ≡ None → (result ≡ false) × (self.new.stands ≡ false) }
-        ensures some { (s : Spelled) (used : ℕ) → row_at self.old.key self.old.after.now ≡ Some (s, used)
-            → (result ≡ true) × HasTaken self.new s used self.old.after.now }
+        ensures none { row_at self.old.form self.old.handle self.old.key self.old.after.now ≡ None → (result ≡ false) × (self.new.stands ≡ false) }
+        ensures some { (s : Spelled) (used : ℕ) → row_at self.old.form self.old.handle self.old.key self.old.after.now ≡ Some (s, used)
+            → (result ≡ true) × HasTaken self.new self.old.form self.old.handle s used self.old.after.now }
         ensures stays { StaysIn self.old self.new }
     {
-        match row_lengths(self.key.bytes(), self.after) {
+        match row_lengths(self.form, self.handle, self.key.bytes(), self.after) {
             None => {
                 self.stands = false;
                 false
@@ -332,6 +352,7 @@ impl<'b> BlockIter<'b> {
             Some(l) => {
                 let row = split_row(self.after, l);
                 self.key.set(l.shared, row.rest);
+                self.handle = handle_after(self.form, self.handle, l.shared, row.value);
                 self.value = row.value;
                 self.here = self.after;
                 self.after = row.after;

@@ -73,6 +73,7 @@ pub use fault::BlockFault;
 pub use iter::BlockIter;
 pub use laws::{
     a_block_has_one_list_of_rows, a_seek_passes_the_rows_before, chosen_block_stands_for_its_rows,
-    each_group_begins_whole, first_fault_is_first, reading_finds_exactly_the_rows,
+    each_group_begins_whole, first_fault_is_first, index_rows_are_one,
+    reading_finds_exactly_the_rows,
 };
 pub use row_form::RowForm;

@@ -1,3 +1,4 @@
+use Rattle.sst_block.specs.declared.row_form.RowForm as forms
 use Rattle.std.proofs.Common.{List, ℕ, ap, sym, subst, ◌∙◌}
 use Rattle.std.specs.Ordering.{is_lt}
 use Rattle.sst_block.specs.Block.{key_cmp}
@@ -9,7 +10,7 @@ pub key_cmp-requires-clause-first : goal.key_cmp-requires-clause-first
 key_cmp-requires-clause-first c =
     let r = c.requires in
     let s = stands-row c.args.self.now r.form r.bytes r.rows r.block r.place r.walks c.if-not-self.false in
-    λ tag. subst (IsLongEnough r.form) (sym (c.bytes.ensures ∙ s.key)) s.long (sym r.walks.orders.tag ∙ tag)
+    subst (λ (f : forms.RowForm). IsLongEnough f c.bytes.result.now) (sym r.walks.form_is) (subst (IsLongEnough r.form) (sym (c.bytes.ensures ∙ s.key)) s.long)
 
 pub returns : goal.returns
 returns c = λ form bytes rows b place w target.
