@@ -17,3 +17,7 @@ pub mod StandsInParts
 pub mod WholeIndex
 pub mod UserKeys
 pub mod SeparatorsFirst
+pub mod PlacesNumbered
+pub mod FoundForward
+pub mod FoundBack
+pub mod FoundWays

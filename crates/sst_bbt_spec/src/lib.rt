@@ -54,12 +54,16 @@
 #![tactic(auto)]
 
 mod form_laws;
+mod found_laws;
 mod laws;
 mod part_laws;
 
 pub use form_laws::{
     a_separated_tree_runs, a_whole_index_is_parts_of_one_block, an_index_leads_to_one_tree,
     what_stands_in_parts_is_ordered,
+};
+pub use found_laws::{
+    a_fault_ends_the_way, a_way_without_a_fault_is_counted, each_way_ends_at_the_entry_of_the_list,
 };
 pub use laws::{
     a_file_stands_for_one_list, a_file_that_stands_is_separated, a_key_between_separates,
