@@ -1,15 +1,16 @@
--- The tree of an index as it is found in a file, with the faults that reading it may meet: a part or a data block is there,
--- or a fault is in its place. Whatever can't be read says nothing of what lies beyond it.
--- RocksDB: BlockBasedTable::NewDataBlockIterator and IndexReader::GetOrReadIndexBlock in
--- table/block_based/block_based_table_reader.h and index_reader_common.h, whose iterators keep the status of such a fault.
+-- The tree of an index as it is found in a file, with the faults that reading it may meet: a part or a data block is
+-- there, or a fault is in its place. Whatever can't be read says nothing of what lies beyond it.
+-- RocksDB: BlockBasedTable::NewDataBlockIterator and IndexReaderCommon::GetOrReadIndexBlock in
+-- table/block_based/block_based_table_reader.h and index_reader_common.h, whose iterators keep the status of such a
+-- fault.
 use Rattle.std.specs.Prelude.{◌≡◌, ℕ, ◌+◌, ◌<◌, List, [], ◌∷◌, length, take, slice_get, Option, None, Some, option_and_then, Result, Ok, Err}
 use Rattle.sst_key.specs.declared.entries.Entry.{Entry}
 use Rattle.sst_bbt_spec.specs.Way.{IndexedBlock, joined}
 use Rattle.sst_bbt_spec.specs.Parts.{Part, stored_in}
 
--- A data block as it is found, under its separator: its stored entries, or the fault that it has. The two faults behind it are
--- those that a walk through the whole file finds there and a call doesn't look for: keys that are on the wrong side of a separator, and
--- a user key that repeats in a file with a mark.
+-- A data block as it is found, under its separator: its stored entries, or the fault that it has. The two faults
+-- behind it are those that a walk through the whole file finds there and a call doesn't look for: keys that are on
+-- the wrong side of a separator, and a user key that repeats in a file with a mark.
 -- Own.
 -- Pinned by: a_way_without_a_fault_is_counted, a_fault_ends_the_way
 pub record FoundBlock (F : Type 0) : Type 0 where
@@ -18,8 +19,8 @@ pub record FoundBlock (F : Type 0) : Type 0 where
   pub misplaced : F
   pub repeated : F
 
--- A part of the index as it is found: the data blocks to which its rows lead, or the fault that it has; and the fault that a walk
--- finds where its last separator is after its own in the top block.
+-- A part of the index as it is found: the data blocks to which its rows lead, or the fault that it has; and the fault
+-- that a walk finds where its last separator is after its own in the top block.
 -- Own.
 -- Pinned by: a_way_without_a_fault_is_counted, a_fault_ends_the_way
 pub record FoundPart (F : Type 0) : Type 0 where
@@ -27,7 +28,8 @@ pub record FoundPart (F : Type 0) : Type 0 where
   pub blocks : Result (List (FoundBlock F)) F
   pub misplaced : F
 
--- where a cursor stands: at a row of a data block, to which a row of a part leads, to which a row of the top block leads
+-- where a cursor stands: at a row of a data block, to which a row of a part leads, to which a row of the top block
+-- leads
 -- RocksDB: BlockBasedTableIterator, whose index_iter_ and block_iter_ each have a place
 -- Pinned by: a_way_without_a_fault_is_counted, a_fault_ends_the_way
 pub record Place : Type 0 where

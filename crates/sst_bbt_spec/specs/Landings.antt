@@ -1,6 +1,6 @@
--- The way of each call through the tree of an index, as it is found in a file: step by step, with the first fault that it
--- meets. Each rule says in its last argument what lies beyond, or before, what it goes through.
--- RocksDB: PartitionedIndexIterator (SeekImpl, FindBlockForward, FindBlockBackward) in
+-- The way of each call through the tree of an index, as it is found in a file: step by step, with the first fault
+-- that it meets. Each rule says in its last argument what lies beyond, or before, what it goes through.
+-- RocksDB: PartitionedIndexIterator (SeekImpl, FindBlockForward, FindKeyBackward) in
 -- table/block_based/partitioned_index_iterator.cc, and BlockBasedTableIterator (SeekImpl, SeekForPrev, FindKeyForward,
 -- FindKeyBackward) in table/block_based/block_based_table_iterator.cc.
 -- Pinned by: a_way_without_a_fault_is_counted, a_fault_ends_the_way
@@ -61,8 +61,8 @@ seek_in_blocks is_before test part block (found ∷ rest) beyond =
     else then_open found.entries
     (λ entries. row_or_beyond part block (count_by test entries) entries (first_in_blocks part (suc block) rest beyond))
 
--- The first top row that isn't before the target leads to a part; where this one has no such index row, the way ends at the
--- first row of the next part. Where no top row is such, it ends nowhere.
+-- The first top row that isn't before the target leads to a part; where this one has no such index row, the way ends
+-- at the first row of the next part. Where no top row is such, it ends nowhere.
 abbrev pub seek_from : {F : Type 0} → (List ℕ → Bool) → (Entry → Bool) → ℕ → List (FoundPart F) → Landing F
 seek_from is_before test part [] = Ok None
 seek_from is_before test part (found ∷ rest) =
@@ -72,9 +72,9 @@ seek_from is_before test part (found ∷ rest) =
 
 -- ---- SeekForPrev
 
--- In a part: the first index row that isn't before the target leads to a data block, and the way ends at the last of the
--- rows there that are before the target or at it, be it in the block before. Where the part has no such index row, it ends at
--- the part's last row.
+-- In a part: the first index row that isn't before the target leads to a data block, and the way ends at the last of
+-- the rows there that are before the target or at it, be it in the block before. Where the part has no such index
+-- row, it ends at the part's last row.
 abbrev pub prev_in_blocks : {F : Type 0} → (List ℕ → Bool) → (Entry → Bool) → ℕ → ℕ → List (FoundBlock F) → Landing F → Landing F
 prev_in_blocks is_before test part block [] before = before
 prev_in_blocks is_before test part block (found ∷ rest) before =
@@ -83,7 +83,8 @@ prev_in_blocks is_before test part block (found ∷ rest) before =
     (then_open found.entries (λ entries. row_or_before part block (length entries) before))
     else then_open found.entries (λ entries. row_or_before part block (count_by test entries) before)
 
--- The first top row that isn't before the target leads to a part. Where each is before it, the way ends where Last does.
+-- The first top row that isn't before the target leads to a part. Where each is before it, the way ends where Last
+-- does.
 abbrev pub prev_from : {F : Type 0} → (List ℕ → Bool) → (Entry → Bool) → ℕ → List (FoundPart F) → Landing F → Landing F
 prev_from is_before test part [] before = before
 prev_from is_before test part (found ∷ rest) before =
@@ -93,8 +94,8 @@ prev_from is_before test part (found ∷ rest) before =
 
 -- ---- Next and Prev
 
--- In a part, from the row at `at` of its index and `row` of the data block there: the next row of the block, else the first
--- row at the next index row. `block` is the number of the first of these index rows.
+-- In a part, from the row at `at` of its index and `row` of the data block there: the next row of the block, else the
+-- first row at the next index row. `block` is the number of the first of these index rows.
 abbrev pub forward_in_blocks : {F : Type 0} → ℕ → ℕ → List (FoundBlock F) → ℕ → ℕ → Landing F → Landing F
 forward_in_blocks part block [] at row beyond = beyond
 forward_in_blocks part block (found ∷ rest) zero row beyond =

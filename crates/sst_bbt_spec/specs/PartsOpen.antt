@@ -1,5 +1,5 @@
--- What a block-based file stands for, whatever form its index has: whole or in parts, with separators that are stored keys
--- or user keys, and handles that stand whole or are differences.
+-- What a block-based file stands for, whatever form its index has: whole or in parts, with separators that are stored
+-- keys or user keys, and handles that stand whole or are differences.
 -- RocksDB: BlockBasedTable::Open and CreateIndexReader in table/block_based/block_based_table_reader.cc; the properties
 -- rocksdb.block.based.table.index.type, rocksdb.index.key.is.user.key and rocksdb.index.value.is.delta.encoded in
 -- include/rocksdb/table_properties.h; wiki pages "Rocksdb BlockBasedTable Format" and "Partitioned Index Filters".
@@ -20,7 +20,8 @@ use Rattle.sst_bbt_spec.specs.Way.{IndexedBlock}
 use Rattle.sst_bbt_spec.specs.Parts.{Part, separator_of}
 use Rattle.sst_bbt_spec.specs.PartRuns.{PartsRun}
 
--- the form of an index: in parts or whole; separators are user keys, or stored keys; handles are differences, or stand whole
+-- the form of an index: in parts or whole; separators are user keys, or stored keys; handles are differences, or
+-- stand whole
 pub record IndexForm : Type 0 where
   pub is_parted : Bool
   pub has_user_keys : Bool
@@ -55,8 +56,8 @@ pub record HoldsPart (file : List ℕ) (end : ℕ) (form : IndexForm) (handle : 
   pub some : 0 < length pairs
   pub lead : LeadToBlocks file end form.has_user_keys pairs blocks
 
--- A row of the top block leads to a part with these data blocks: in an index of parts the part stands at its handle; in a
--- whole index the row is itself the one row of the part.
+-- A row of the top block leads to a part with these data blocks: in an index of parts the part stands at its handle;
+-- in a whole index the row is itself the one row of the part.
 abbrev pub LeadsWithin : Bool → List ℕ → ℕ → IndexForm → IndexPair → List IndexedBlock → Type 0
 LeadsWithin true file end form pair blocks = HoldsPart file end form pair.handle blocks
 LeadsWithin false file end form pair blocks = LeadToBlocks file end form.has_user_keys (pair ∷ []) blocks

@@ -36,7 +36,7 @@ abbrev pub crossed_blocks : List IndexedBlock
 crossed_blocks = block_at 97 1 ∷ block_at 98 1 ∷ block_at 122 1 ∷ []
 
 -- 61 and 62, stored with sequence number 0, as a file keeps them that is then stamped
--- Pinned by: the_tree_decides.marked
+-- Pinned by: the_tree_decides.marked_seek
 abbrev pub stamped_tree : List Part
 stamped_tree =
     record { separator = separator_at 97; blocks = block_at 97 0 ∷ [] } ∷ record { separator = separator_at 98; blocks = block_at 98 0 ∷ [] } ∷ []

@@ -1,5 +1,5 @@
-//! Laws over the tree of an index as it is found in a file: the way of each call, step by step, and the faults that end it.
-//! The faults here are told apart by numbers.
+//! Laws over the tree of an index as it is found in a file: the way of each call, step by step, and the faults that
+//! end it. The faults here are told apart by numbers.
 ghost use Rattle.std.specs.Prelude.{◌≡◌, ℕ, List, [], ◌∷◌, slice_get, All, Option, None, Some, Result, Ok, Err};
 ghost use Rattle.sst_key.specs.declared.entries.Entry.{Entry};
 ghost use Rattle.sst_key.specs.declared.calls.Call.{Call};
@@ -16,12 +16,13 @@ ghost use Rattle.sst_bbt_spec.specs.FoundParts.{FoundPart, Place, AllFound, IsNu
 ghost use Rattle.sst_bbt_spec.specs.Landings.{landing_of, seek_landing, seek_for_prev_landing};
 ghost use Rattle.sst_bbt_spec.specs.WorkedTrees.{broken_part, broken_block};
 
-/// On a tree that is found without a fault, the way of each call ends where the counted way does, whatever the separators.
+/// On a tree that is found without a fault, the way of each call ends where the counted way does, whatever the
+/// separators.
 ///
-/// `lands`: it ends at the place of the entry that is shown by number, or nowhere where none is. `no_fault`: so no fault ends it.
-/// `shows`: the entry at a place is the one of its number in the list of all.
-/// RocksDB: `PartitionedIndexIterator` in table/block_based/partitioned_index_iterator.cc and `BlockBasedTableIterator` in
-/// table/block_based/block_based_table_iterator.cc.
+/// `lands`: it ends at the place of the entry that is shown by number, or nowhere where none is. `no_fault`: so no
+/// fault ends it. `shows`: the entry at a place is the one of its number in the list of all.
+/// RocksDB: `PartitionedIndexIterator` in table/block_based/partitioned_index_iterator.cc and
+/// `BlockBasedTableIterator` in table/block_based/block_based_table_iterator.cc.
 pub fn a_way_without_a_fault_is_counted()
     ensures lands { (mark : Option ℕ) (found : List (FoundPart ℕ)) (parts : List Part) (position : Option Place) (number : Option ℕ) (call : Call)
         → AllFound found parts → AreNumbered parts position number
@@ -34,8 +35,8 @@ pub fn a_way_without_a_fault_is_counted()
 
 /// Where the tree stands for a list, the way of each call ends at the entry that the list shows, Get included.
 ///
-/// `apart`: where the separators separate, with any mark. `stands`: on a file that stands for a list by a form of its index, where
-/// its parts are found without a fault.
+/// `apart`: where the separators separate, with any mark. `stands`: on a file that stands for a list by a form of its
+/// index, where its parts are found without a fault.
 /// RocksDB: as above, and `BlockBasedTable::Get` in table/block_based/block_based_table_reader.cc.
 pub fn each_way_ends_at_the_entry_of_the_list()
     ensures apart { (mark : Option ℕ) (found : List (FoundPart ℕ)) (parts : List Part) (position : Option Place) (number : Option ℕ) (call : Call)
@@ -49,13 +50,14 @@ pub fn each_way_ends_at_the_entry_of_the_list()
 
 /// A fault ends each way that comes to it, and no other: two trees that were worked out by hand.
 ///
-/// In the first tree stand the row 61 under the top separator 61, and under 6d a part with fault 7. `part_first`, `part_seek`
-/// and `part_prev`: First, Seek to 61 at 1 and SeekForPrev to 61 at 1 land on 61; `part_before`: Prev from there ends nowhere;
-/// `part_next`, `part_last` and `part_beyond`: Next from there, Last, and Seek to 61 at 0, which passes 61, end in the fault.
-/// `part_past`: Seek to 7a passes the separator 6d, and so doesn't come to the part.
+/// In the first tree stand the row 61 under the top separator 61, and under 6d a part with fault 7. `part_first`,
+/// `part_seek` and `part_prev`: First, Seek to 61 at 1 and SeekForPrev to 61 at 1 land on 61; `part_before`: Prev
+/// from there ends nowhere; `part_next`, `part_last` and `part_beyond`: Next from there, Last, and Seek to 61 at 0,
+/// which passes 61, end in the fault. `part_past`: Seek to 7a passes the separator 6d, and so doesn't come to the
+/// part.
 ///
-/// In the second tree one part has a data block with fault 8 and a sound one of 62. `block_first`: First ends in the fault.
-/// `block_last`: Last lands on 62, and `block_prev`: Prev from there ends in the fault.
+/// In the second tree one part has a data block with fault 8 and a sound one of 62. `block_first`: First ends in the
+/// fault. `block_last`: Last lands on 62, and `block_prev`: Prev from there ends in the fault.
 /// RocksDB: `BlockBasedTableIterator::FindKeyForward`, whose status is that of the block that it can't read.
 pub fn a_fault_ends_the_way()
     ensures part_first { landing_of None broken_part None First ≡ Ok (Some (record { part = 0; block = 0; row = 0 })) }
