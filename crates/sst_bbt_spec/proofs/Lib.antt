@@ -21,3 +21,4 @@ pub mod PlacesNumbered
 pub mod FoundForward
 pub mod FoundBack
 pub mod FoundWays
+pub mod PlacesOnce

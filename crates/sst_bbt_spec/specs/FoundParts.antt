@@ -91,7 +91,7 @@ AllFound (found ∷ rest) (part ∷ parts) = IsFound found part × AllFound rest
 -- a place of a tree, and the number of its entry in the list of all: how many stand in the parts before, in the blocks
 -- before within its part, and in the rows before within its block
 -- Own.
--- Pinned by: a_way_without_a_fault_is_counted
+-- Pinned by: a_way_without_a_fault_is_counted, places_and_numbers_tell_each_other
 pub record IsNumbered (parts : List Part) (place : Place) (number : ℕ) : Type 0 where
   pub part : Part
   pub at_part : slice_get parts place.part ≡ Some part

@@ -33,8 +33,7 @@ stored_in parts = joined (map whole_of parts)
 
 -- a separator as a stored key: where separators are user keys, one stands as its stored key with tag 0, which is
 -- the last that has this user key
--- RocksDB: table/block_based/index_builder.h, ShortenedIndexBuilder (must_use_separator_with_seq_); that the tag is 0
--- is own
+-- RocksDB: table/block_based/index_builder.h, IndexBuilder::seperator_is_key_plus_seq; that the tag is 0 is own
 -- Pinned by: user_keys_are_compared_alone
 abbrev pub separator_of : Bool → List ℕ → List ℕ
 separator_of true key = key ++ fixed 8 0

@@ -1,6 +1,6 @@
 //! Laws over the tree of an index as it is found in a file: the way of each call, step by step, and the faults that
 //! end it. The faults here are told apart by numbers.
-ghost use Rattle.std.specs.Prelude.{◌≡◌, ℕ, List, [], ◌∷◌, slice_get, All, Option, None, Some, Result, Ok, Err};
+ghost use Rattle.std.specs.Prelude.{◌≡◌, ℕ, ◌<◌, length, List, [], ◌∷◌, slice_get, All, Option, None, Some, Result, Ok, Err};
 ghost use Rattle.sst_key.specs.declared.entries.Entry.{Entry};
 ghost use Rattle.sst_key.specs.declared.calls.Call.{Call};
 ghost use Rattle.sst_key.specs.declared.calls.Call.TheVariants.{First, Last, Next, Prev};
@@ -31,6 +31,16 @@ pub fn a_way_without_a_fault_is_counted()
         → AllFound found parts → AreNumbered parts position number → landing_of mark found position call ≡ Err fault → ⊥ }
     ensures shows { (found : List (FoundPart ℕ)) (parts : List Part) (place : Place) (number : ℕ) → AllFound found parts
         → IsNumbered parts place number → (e : Entry) × (entry_in found place ≡ Some e) × (slice_get (stored_in parts) number ≡ Some e) }
+{}
+
+/// The places of a tree and the numbers of its entries tell each other.
+///
+/// `number`: a place has one number at most. `place`: no two places have the same. `each`: each number of the list has a
+/// place. RocksDB: include/rocksdb/iterator.h, whose positions are entries.
+pub fn places_and_numbers_tell_each_other()
+    ensures number { (parts : List Part) (place : Place) (m n : ℕ) → IsNumbered parts place m → IsNumbered parts place n → m ≡ n }
+    ensures place { (parts : List Part) (a b : Place) (number : ℕ) → IsNumbered parts a number → IsNumbered parts b number → a ≡ b }
+    ensures each { (parts : List Part) (number : ℕ) → number < length (stored_in parts) → (place : Place) × IsNumbered parts place number }
 {}
 
 /// Where the tree stands for a list, the way of each call ends at the entry that the list shows, Get included.

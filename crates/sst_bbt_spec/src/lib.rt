@@ -106,7 +106,7 @@
 //!   without a fault where the counted way does, whatever the separators ([`a_way_without_a_fault_is_counted`]); so
 //!   where the tree stands for a list, it ends at the entry that the list shows
 //!   ([`each_way_ends_at_the_entry_of_the_list`]). A fault ends each way that comes to it, and no other
-//!   ([`a_fault_ends_the_way`]).
+//!   ([`a_fault_ends_the_way`]). Places and numbers tell each other ([`places_and_numbers_tell_each_other`]).
 //!
 //! RocksDB: the wiki pages "Rocksdb BlockBasedTable Format" and "Partitioned Index Filters";
 //! table/block_based/block_based_table_reader.cc, table/block_based/partitioned_index_reader.h and
@@ -124,6 +124,7 @@ pub use form_laws::{
 };
 pub use found_laws::{
     a_fault_ends_the_way, a_way_without_a_fault_is_counted, each_way_ends_at_the_entry_of_the_list,
+    places_and_numbers_tell_each_other,
 };
 pub use laws::{
     a_file_stands_for_one_list, a_file_that_stands_is_separated, a_key_between_separates,

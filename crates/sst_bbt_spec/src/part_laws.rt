@@ -1,7 +1,8 @@
 //! Laws over the parts of an index: the way of a call, and the list that runs through the parts.
-ghost use Rattle.std.specs.Prelude.{◌≡◌, ◌≢◌, ℕ, ◌<◌, Bool, true, List, [], ◌∷◌, slice_get, All, Option, None, Some};
+ghost use Rattle.std.specs.Prelude.{◌≡◌, ◌≢◌, ℕ, Bool, true, List, [], ◌∷◌, All, Option, None, Some};
 ghost use Rattle.std.specs.Ordering.{nat_cmp, is_lt};
 ghost use Rattle.std.specs.Cmp.Lexicographic.{slice_cmp};
+ghost use Rattle.std.specs.List.Sorted.{IsPartitionedBy};
 ghost use Rattle.std.specs.declared.cmp.Ordering.TheVariants.{Less, Greater};
 ghost use Rattle.sst_key.specs.declared.entries.Entry.{Entry};
 ghost use Rattle.sst_key.specs.declared.calls.Call.{Call};
@@ -76,17 +77,15 @@ pub fn user_keys_are_compared_alone()
         → IsAfterSeparator (separator_of true key) f → slice_cmp nat_cmp e.user f.user ≡ Less }
 {}
 
-/// In an index block of any form the separators that are before a target come first: if one is before it, each one
-/// ahead of it is. So the first that isn't is found by halving.
+/// In an index block of any form the separators that are before a target come first: none that is before it comes after
+/// one that isn't. So the first that isn't is found by halving.
 ///
 /// RocksDB: `BlockIter::BinarySeek` and `IndexBlockIter::SeekImpl` in table/block_based/block.cc.
 pub fn separators_before_a_target_come_first()
-    ensures seek { (user_key delta : Bool) (bytes : List ℕ) (pairs : List IndexPair) (mark : Option ℕ) (user : List ℕ) (seq i j : ℕ) (a b : IndexPair)
-        → IndexRows user_key delta bytes pairs → i < j → slice_get pairs i ≡ Some a → slice_get pairs j ≡ Some b
-        → is_before_seek mark user seq (separator_of user_key b.separator) ≡ true
-        → is_before_seek mark user seq (separator_of user_key a.separator) ≡ true }
-    ensures prev { (user_key delta : Bool) (bytes : List ℕ) (pairs : List IndexPair) (mark : Option ℕ) (user : List ℕ) (seq i j : ℕ) (a b : IndexPair)
-        → IndexRows user_key delta bytes pairs → i < j → slice_get pairs i ≡ Some a → slice_get pairs j ≡ Some b
-        → is_before_prev mark user seq (separator_of user_key b.separator) ≡ true
-        → is_before_prev mark user seq (separator_of user_key a.separator) ≡ true }
+    ensures seek { (user_key delta : Bool) (bytes : List ℕ) (pairs : List IndexPair) (mark : Option ℕ) (user : List ℕ) (seq : ℕ)
+        → IndexRows user_key delta bytes pairs
+        → IsPartitionedBy (λ (pair : IndexPair). is_before_seek mark user seq (separator_of user_key pair.separator)) pairs }
+    ensures prev { (user_key delta : Bool) (bytes : List ℕ) (pairs : List IndexPair) (mark : Option ℕ) (user : List ℕ) (seq : ℕ)
+        → IndexRows user_key delta bytes pairs
+        → IsPartitionedBy (λ (pair : IndexPair). is_before_prev mark user seq (separator_of user_key pair.separator)) pairs }
 {}
