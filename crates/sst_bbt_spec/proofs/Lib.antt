@@ -22,3 +22,4 @@ pub mod FoundForward
 pub mod FoundBack
 pub mod FoundWays
 pub mod PlacesOnce
+pub mod LandingsByNumber
