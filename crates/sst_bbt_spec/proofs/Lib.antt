@@ -23,3 +23,4 @@ pub mod FoundBack
 pub mod FoundWays
 pub mod PlacesOnce
 pub mod LandingsByNumber
+pub mod TreeFound

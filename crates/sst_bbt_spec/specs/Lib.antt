@@ -11,3 +11,4 @@ pub mod PartsOpen
 pub mod WorkedTrees
 pub mod FoundParts
 pub mod Landings
+pub mod FoundTree

@@ -47,13 +47,17 @@ LeadToBlocks file end user_keys (pair ∷ pairs) (block ∷ blocks) =
     (separator_of user_keys pair.separator ≡ block.separator) × HoldsEntries file end pair.handle block.entries
     × LeadToBlocks file end user_keys pairs blocks
 
--- at the handle stands a part of the index, of one row at least, whose rows lead to these data blocks
-pub record HoldsPart (file : List ℕ) (end : ℕ) (form : IndexForm) (handle : Handle) (blocks : List IndexedBlock) : Type 0 where
+-- at the handle stands an index block that says these pairs, of which there is one at least
+pub record HoldsPairs (file : List ℕ) (end : ℕ) (form : IndexForm) (handle : Handle) (pairs : List IndexPair) : Type 0 where
   pub block : List ℕ
-  pub pairs : List IndexPair
   pub framed : Framed file end handle block
   pub rows : IndexRows form.has_user_keys form.has_differences block pairs
   pub some : 0 < length pairs
+
+-- at the handle stands a part of the index, whose rows lead to these data blocks
+pub record HoldsPart (file : List ℕ) (end : ℕ) (form : IndexForm) (handle : Handle) (blocks : List IndexedBlock) : Type 0 where
+  pub pairs : List IndexPair
+  pub holds : HoldsPairs file end form handle pairs
   pub lead : LeadToBlocks file end form.has_user_keys pairs blocks
 
 -- A row of the top block leads to a part with these data blocks: in an index of parts the part stands at its handle;

@@ -1,18 +1,22 @@
 //! Laws over the tree of an index as it is found in a file: the way of each call, step by step, and the faults that
 //! end it. The faults here are told apart by numbers.
 ghost use Rattle.std.specs.Prelude.{◌≡◌, ℕ, ◌<◌, length, List, [], ◌∷◌, slice_get, All, Option, None, Some, Result, Ok, Err};
+ghost use Rattle.sst_num.specs.declared.block_handle.Handle.{Handle};
 ghost use Rattle.sst_key.specs.declared.entries.Entry.{Entry};
 ghost use Rattle.sst_key.specs.declared.calls.Call.{Call};
 ghost use Rattle.sst_key.specs.declared.calls.Call.TheVariants.{First, Last, Next, Prev};
 ghost use Rattle.sst_key.specs.declared.calls.Format.TheVariants.{Block};
 ghost use Rattle.sst_key.specs.ListMachine.{answer_of};
+ghost use Rattle.sst_block.specs.IndexRows.{IndexPair};
+ghost use Rattle.sst_meta.specs.BlockFooter.{footer_start};
 ghost use Rattle.sst_bbt_spec.specs.Rows.{HasSeq};
 ghost use Rattle.sst_bbt_spec.specs.Parts.{Part, stored_in};
 ghost use Rattle.sst_bbt_spec.specs.Mark.{shown_in};
 ghost use Rattle.sst_bbt_spec.specs.PartWay.{answer_in_parts};
 ghost use Rattle.sst_bbt_spec.specs.PartRuns.{SeparateParts};
-ghost use Rattle.sst_bbt_spec.specs.PartsOpen.{IndexForm, StandsInForm};
+ghost use Rattle.sst_bbt_spec.specs.PartsOpen.{IndexForm, LeadToParts, StandsInForm};
 ghost use Rattle.sst_bbt_spec.specs.FoundParts.{FoundPart, Place, AllFound, IsNumbered, AreNumbered, LandsAt, entry_in};
+ghost use Rattle.sst_bbt_spec.specs.FoundTree.{Reading, IsExact, found_parts};
 ghost use Rattle.sst_bbt_spec.specs.Landings.{landing_of, seek_landing, seek_for_prev_landing};
 ghost use Rattle.sst_bbt_spec.specs.WorkedTrees.{broken_part, broken_block};
 
@@ -81,4 +85,20 @@ pub fn a_fault_ends_the_way()
     ensures block_first { landing_of None broken_block None First ≡ Err 8 }
     ensures block_last { landing_of None broken_block None Last ≡ Ok (Some (record { part = 0; block = 1; row = 0 })) }
     ensures block_prev { landing_of None broken_block (Some (record { part = 0; block = 1; row = 0 })) Prev ≡ Err 8 }
+{}
+
+/// Where reading is exact, the parts of an index are found without a fault exactly where its rows lead to them.
+///
+/// `found`: what the rows lead to is found. `lead`: and what is found without a fault is what they lead to. `way`: so on a file that
+/// stands for a list by a form of its index, the way of each call through what is read ends at the entry that the list
+/// shows. RocksDB: `BlockBasedTable::NewDataBlockIterator` in table/block_based/block_based_table_reader_impl.h.
+pub fn parts_are_found_where_they_lead()
+    ensures found { (reading : Reading ℕ) (file : List ℕ) (end : ℕ) (form : IndexForm) (top : Handle) (row : ℕ) (pairs : List IndexPair) (parts : List Part)
+        → IsExact reading file end form → LeadToParts file end form pairs parts → AllFound (found_parts reading form top row pairs) parts }
+    ensures lead { (reading : Reading ℕ) (file : List ℕ) (end : ℕ) (form : IndexForm) (top : Handle) (row : ℕ) (pairs : List IndexPair) (parts : List Part)
+        → IsExact reading file end form → AllFound (found_parts reading form top row pairs) parts → LeadToParts file end form pairs parts }
+    ensures way { (reading : Reading ℕ) (file : List ℕ) (form : IndexForm) (entries : List Entry) (stands : StandsInForm file form entries)
+        (position : Option Place) (number : Option ℕ) (call : Call) → IsExact reading file (footer_start file) form → AreNumbered stands.parts position number
+        → LandsAt stands.parts (landing_of None (found_parts reading form stands.opens.loaded.footer.index 0 stands.opens.pairs) position call)
+        (answer_of Block 0 entries number call).shown }
 {}

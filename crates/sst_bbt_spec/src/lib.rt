@@ -107,6 +107,8 @@
 //!   where the tree stands for a list, it ends at the entry that the list shows
 //!   ([`each_way_ends_at_the_entry_of_the_list`]). A fault ends each way that comes to it, and no other
 //!   ([`a_fault_ends_the_way`]). Places and numbers tell each other ([`places_and_numbers_tell_each_other`]).
+//! - A tree is found by reading block after block (`found_parts`, specs/FoundTree.antt). Where reading is exact, it is found
+//!   without a fault exactly where the rows of the index lead to good blocks ([`parts_are_found_where_they_lead`]).
 //!
 //! RocksDB: the wiki pages "Rocksdb BlockBasedTable Format" and "Partitioned Index Filters";
 //! table/block_based/block_based_table_reader.cc, table/block_based/partitioned_index_reader.h and
@@ -124,7 +126,7 @@ pub use form_laws::{
 };
 pub use found_laws::{
     a_fault_ends_the_way, a_way_without_a_fault_is_counted, each_way_ends_at_the_entry_of_the_list,
-    places_and_numbers_tell_each_other,
+    parts_are_found_where_they_lead, places_and_numbers_tell_each_other,
 };
 pub use laws::{
     a_file_stands_for_one_list, a_file_that_stands_is_separated, a_key_between_separates,
