@@ -10,9 +10,10 @@ use Rattle.sst_bbt_spec.specs.Parts.{separator_of}
 use Rattle.sst_bbt_spec.specs.PartsOpen.{IndexForm, HoldsEntries, HoldsPairs}
 use Rattle.sst_bbt_spec.specs.FoundParts.{FoundBlock, FoundPart, then_open}
 
--- How the blocks of a file are read: the entries of the data block at a handle, the pairs of the index block at a handle,
--- or the fault that the block has. The other two name what a walk finds: keys on the wrong side of the separator in the row of this
--- number of the index block at a handle, and a user key that repeats in the first row of the data block at a handle.
+-- How the blocks of a file are read: the entries of the data block at a handle, the pairs of the index block at a
+-- handle, or the fault that the block has. The other two name what a walk finds: keys on the wrong side of the
+-- separator in the row of this number of the index block at a handle, and a user key that repeats in the first row of
+-- the data block at a handle.
 -- Own.
 pub record Reading (F : Type 0) : Type 0 where
   pub entries : Handle → Result (List Entry) F
@@ -33,8 +34,8 @@ found_blocks reading user_keys index row (pair ∷ pairs) =
     }
     ∷ found_blocks reading user_keys index (suc row) pairs
 
--- the data blocks of a part: those to which the index block at its handle leads; in a whole index the one to which the row of
--- the top block leads itself
+-- the data blocks of a part: those to which the index block at its handle leads; in a whole index the one to which
+-- the row of the top block leads itself
 -- Own.
 abbrev pub found_within : {F : Type 0} → Bool → Reading F → Bool → Handle → ℕ → IndexPair → Result (List (FoundBlock F)) F
 found_within true reading user_keys top row pair =

@@ -39,8 +39,8 @@ pub fn a_way_without_a_fault_is_counted()
 
 /// The places of a tree and the numbers of its entries tell each other.
 ///
-/// `number`: a place has one number at most. `place`: no two places have the same. `each`: each number of the list has a
-/// place. RocksDB: include/rocksdb/iterator.h, whose positions are entries.
+/// `number`: a place has one number at most. `place`: no two places have the same. `each`: each number of the list
+/// has a place. RocksDB: include/rocksdb/iterator.h, whose positions are entries.
 pub fn places_and_numbers_tell_each_other()
     ensures number { (parts : List Part) (place : Place) (m n : ℕ) → IsNumbered parts place m → IsNumbered parts place n → m ≡ n }
     ensures place { (parts : List Part) (a b : Place) (number : ℕ) → IsNumbered parts a number → IsNumbered parts b number → a ≡ b }
@@ -89,9 +89,10 @@ pub fn a_fault_ends_the_way()
 
 /// Where reading is exact, the parts of an index are found without a fault exactly where its rows lead to them.
 ///
-/// `found`: what the rows lead to is found. `lead`: and what is found without a fault is what they lead to. `way`: so on a file that
-/// stands for a list by a form of its index, the way of each call through what is read ends at the entry that the list
-/// shows. RocksDB: `BlockBasedTable::NewDataBlockIterator` in table/block_based/block_based_table_reader_impl.h.
+/// `found`: what the rows lead to is found. `lead`: and what is found without a fault is what they lead to. `way`: so
+/// on a file that stands for a list by a form of its index, the way of each call through what is read ends at the
+/// entry that the list shows. RocksDB: `BlockBasedTable::NewDataBlockIterator` in
+/// table/block_based/block_based_table_reader_impl.h.
 pub fn parts_are_found_where_they_lead()
     ensures found { (reading : Reading ℕ) (file : List ℕ) (end : ℕ) (form : IndexForm) (top : Handle) (row : ℕ) (pairs : List IndexPair) (parts : List Part)
         → IsExact reading file end form → LeadToParts file end form pairs parts → AllFound (found_parts reading form top row pairs) parts }

@@ -107,8 +107,9 @@
 //!   where the tree stands for a list, it ends at the entry that the list shows
 //!   ([`each_way_ends_at_the_entry_of_the_list`]). A fault ends each way that comes to it, and no other
 //!   ([`a_fault_ends_the_way`]). Places and numbers tell each other ([`places_and_numbers_tell_each_other`]).
-//! - A tree is found by reading block after block (`found_parts`, specs/FoundTree.antt). Where reading is exact, it is found
-//!   without a fault exactly where the rows of the index lead to good blocks ([`parts_are_found_where_they_lead`]).
+//! - A tree is found by reading block after block (`found_parts`, specs/FoundTree.antt). Where reading is exact, it
+//!   is found without a fault exactly where the rows of the index lead to good blocks
+//!   ([`parts_are_found_where_they_lead`]).
 //!
 //! RocksDB: the wiki pages "Rocksdb BlockBasedTable Format" and "Partitioned Index Filters";
 //! table/block_based/block_based_table_reader.cc, table/block_based/partitioned_index_reader.h and

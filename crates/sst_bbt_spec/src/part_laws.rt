@@ -15,8 +15,8 @@ ghost use Rattle.sst_bbt_spec.specs.Way.{IsUpToSeparator, IsAfterSeparator, way_
 ghost use Rattle.sst_bbt_spec.specs.Parts.{Part, separator_of, stored_in};
 ghost use Rattle.sst_bbt_spec.specs.Mark.{shown_in, is_before_seek, is_before_prev};
 ghost use Rattle.sst_bbt_spec.specs.PartWay.{answer_in_parts, replies_in_parts, seek_in_parts, seek_for_prev_in_parts, get_in_parts};
-ghost use Rattle.sst_bbt_spec.specs.PartRuns.{SeparateParts};
-ghost use Rattle.sst_bbt_spec.specs.WorkedTrees.{crossed_tree, crossed_blocks, stamped_tree};
+ghost use Rattle.sst_bbt_spec.specs.PartRuns.{PartsRun, SeparateParts};
+ghost use Rattle.sst_bbt_spec.specs.WorkedTrees.{entry_at, crossed_tree, crossed_blocks, stamped_tree};
 
 /// Where the separators separate the parts of an index and the blocks of each part, each call is answered as the list
 /// of the entries answers.
@@ -40,14 +40,17 @@ pub fn the_way_over_parts_is_the_lists()
 /// next part, 62, though 62 is before 6b. `side_by_side`: over the same blocks without the top block Seek lands on
 /// 7a. `back`: SeekForPrev lands on the last row of the first part.
 ///
-/// The rest are of 61 and 62 stored with sequence number 0 in a file whose mark is 5. `marked_seek`: at 4 the entry
-/// of 61 isn't seen, so Seek to 61 lands on 62, and at 5 on 61. `marked_prev`: SeekForPrev to 62 lands at 6 on 61,
-/// and at 5 on 62. `marked_get`: Get of 61 shows it at 5, and nothing at 4.
+/// The rest are of 61 and 62 stored with sequence number 0, through which their list runs (`runs`), in a file whose
+/// mark is 5. `marked_seek`: at 4 the entry of 61 isn't seen, so Seek to 61 lands on 62, and at 5 on 61.
+/// `marked_prev`: SeekForPrev to 62 lands at 6 on 61, and at 5 on 62. `marked_get`: Get of 61 shows it at 5, and
+/// nothing at 4.
 /// RocksDB: `SeekImpl` and `FindBlockForward` in table/block_based/partitioned_index_iterator.cc.
 pub fn the_tree_decides()
     ensures by_parts { seek_in_parts None crossed_tree (107 ∷ []) 0 ≡ Some 1 }
     ensures side_by_side { way_seek crossed_blocks (107 ∷ []) 0 ≡ Some 2 }
     ensures back { seek_for_prev_in_parts None crossed_tree (107 ∷ []) 0 ≡ Some 0 }
+    ensures runs { PartsRun stamped_tree (entry_at 97 0 ∷ entry_at 98 0 ∷ []) }
+    ensures crosses { (entries : List Entry) → PartsRun crossed_tree entries → ⊥ }
     ensures marked_seek { (seek_in_parts (Some 5) stamped_tree (97 ∷ []) 4 ≡ Some 1)
         × (seek_in_parts (Some 5) stamped_tree (97 ∷ []) 5 ≡ Some 0) }
     ensures marked_prev { (seek_for_prev_in_parts (Some 5) stamped_tree (98 ∷ []) 6 ≡ Some 0)
