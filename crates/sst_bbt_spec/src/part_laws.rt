@@ -38,7 +38,7 @@ pub fn the_way_over_parts_is_the_lists()
 /// Under the top separator 6d stands the row 61, and under 7a stand 62 and 7a. `by_parts`: the target 6b is before
 /// 6d, so it leads to the first part; that one has no row at or after it, and so Seek lands on the first row of the
 /// next part, 62, though 62 is before 6b. `side_by_side`: over the same blocks without the top block Seek lands on
-/// 7a. `back`: SeekForPrev lands on the last row of the first part.
+/// 7a. `back`: SeekForPrev lands on the last row of the first part. `crosses`: no list runs through this tree.
 ///
 /// The rest are of 61 and 62 stored with sequence number 0, through which their list runs (`runs`), in a file whose
 /// mark is 5. `marked_seek`: at 4 the entry of 61 isn't seen, so Seek to 61 lands on 62, and at 5 on 61.
