@@ -17,3 +17,10 @@ pub mod StandsInParts
 pub mod WholeIndex
 pub mod UserKeys
 pub mod SeparatorsFirst
+pub mod PlacesNumbered
+pub mod FoundForward
+pub mod FoundBack
+pub mod FoundWays
+pub mod PlacesOnce
+pub mod LandingsByNumber
+pub mod TreeFound

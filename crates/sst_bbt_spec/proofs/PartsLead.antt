@@ -42,7 +42,7 @@ part-led : (parted : Bool) (file : List ℕ) (end : ℕ) (form : IndexForm) (pai
     → LeadsWithin parted file end form pair part.blocks → IsSoundPart part
 part-led true file end form pair part held =
     record {
-      some = blocks-some file end form.has_user_keys held.pairs part.blocks held.lead held.some;
+      some = blocks-some file end form.has_user_keys held.pairs part.blocks held.lead held.holds.some;
       blocks = blocks-sound file end form.has_user_keys held.pairs part.blocks held.lead;
     }
 part-led false file end form pair part lead =
@@ -88,7 +88,7 @@ index-one user_key delta file end h g x y a b same at_x at_y left right =
 within-one : (parted : Bool) (file : List ℕ) (end : ℕ) (form : IndexForm) (pair : IndexPair) (a b : List IndexedBlock)
     → LeadsWithin parted file end form pair a → LeadsWithin parted file end form pair b → a ≡ b
 within-one true file end form pair a b left right =
-    let pairs = index-one form.has_user_keys form.has_differences file end pair.handle pair.handle left.block right.block left.pairs right.pairs refl left.framed right.framed left.rows right.rows in
+    let pairs = index-one form.has_user_keys form.has_differences file end pair.handle pair.handle left.holds.block right.holds.block left.pairs right.pairs refl left.holds.framed right.holds.framed left.holds.rows right.holds.rows in
     blocks-one file end form.has_user_keys left.pairs a b left.lead
     (subst (λ (all : List IndexPair). LeadToBlocks file end form.has_user_keys all b) (sym pairs) right.lead)
 within-one false file end form pair a b left right = blocks-one file end form.has_user_keys (pair ∷ []) a b left right

@@ -1,7 +1,9 @@
 -- In an index block the separators that are before a target come first.
-use Rattle.std.proofs.Common.{◌≡◌, ℕ, zero, suc, ◌<◌, nat_lt, nat_le, Bool, true, false, cond, List, [], ◌∷◌, map, slice_get, Option, None, Some, sym, ap, ◌∙◌, subst, arith}
+use Rattle.std.proofs.Common.{◌≡◌, ℕ, zero, suc, ◌<◌, get_or, nat_lt, nat_le, Bool, true, false, cond, List, [], ◌∷◌, map, slice_get, Option, None, Some, sym, ap, ◌∙◌, subst, inl, inr, arith}
 use Rattle.std.specs.Ordering.{is_lt}
-use Rattle.std.proofs.lemmas.Option.{same_Some}
+use Rattle.std.specs.List.Sorted.{IsPartitionedBy}
+use Rattle.std.proofs.lemmas.Bool.{cases_lt}
+use Rattle.std.proofs.lemmas.Option.{same_Some, slice_get-get_or}
 use Rattle.std.specs.declared.cmp.Ordering.TheVariants.{Less}
 use Rattle.sst_key.specs.InternalKey.{user_of, tag_of, internal_cmp}
 use Rattle.sst_key.proofs.TargetOrder.{before-in_words}
@@ -106,14 +108,25 @@ all-before is_before user_key (c ∷ pairs) zero (suc j) a b goes ordered low he
 all-before is_before user_key (c ∷ pairs) (suc i) (suc j) a b goes ordered low here there is =
     all-before is_before user_key pairs i j a b goes (order-tail user_key c pairs ordered) (omega (arith, low)) here there is
 
-pub seek-come_first : (user_key delta : Bool) (bytes : List ℕ) (pairs : List IndexPair) (mark : Option ℕ) (user : List ℕ) (seq i j : ℕ) (a b : IndexPair)
-    → IndexRows user_key delta bytes pairs → i < j → slice_get pairs i ≡ Some a → slice_get pairs j ≡ Some b
-    → is_before_seek mark user seq (separator_of user_key b.separator) ≡ true → is_before_seek mark user seq (separator_of user_key a.separator) ≡ true
-seek-come_first user_key delta bytes pairs mark user seq i j a b rows low here there is =
-    all-before (is_before_seek mark user seq) user_key pairs i j a b (seek-first mark user seq) (index-in_order user_key delta bytes pairs rows) low here there is
+-- the same by the words of `partition_point`
+partitioned : (is_before : List ℕ → Bool) (user_key : Bool) (pairs : List IndexPair) → GoesFirst is_before → InOrder user_key pairs
+    → IsPartitionedBy (λ (pair : IndexPair). is_before (separator_of user_key pair.separator)) pairs
+partitioned is_before user_key pairs goes ordered = λ i j d low inside is.
+    elim (cases_lt i j) [
+      | inl less ↦
+          all-before is_before user_key pairs i j (get_or pairs i d) (get_or pairs j d) goes ordered less
+          (slice_get-get_or pairs i d (omega (arith, low, inside))) (slice_get-get_or pairs j d inside) is
+      | inr other ↦
+          let same : i ≡ j = omega (arith, low, other) in
+          ap (λ (k : ℕ). is_before (separator_of user_key (get_or pairs k d).separator)) same ∙ is
+    ]
 
-pub prev-come_first : (user_key delta : Bool) (bytes : List ℕ) (pairs : List IndexPair) (mark : Option ℕ) (user : List ℕ) (seq i j : ℕ) (a b : IndexPair)
-    → IndexRows user_key delta bytes pairs → i < j → slice_get pairs i ≡ Some a → slice_get pairs j ≡ Some b
-    → is_before_prev mark user seq (separator_of user_key b.separator) ≡ true → is_before_prev mark user seq (separator_of user_key a.separator) ≡ true
-prev-come_first user_key delta bytes pairs mark user seq i j a b rows low here there is =
-    all-before (is_before_prev mark user seq) user_key pairs i j a b (prev-first mark user seq) (index-in_order user_key delta bytes pairs rows) low here there is
+pub seek-come_first : (user_key delta : Bool) (bytes : List ℕ) (pairs : List IndexPair) (mark : Option ℕ) (user : List ℕ) (seq : ℕ)
+    → IndexRows user_key delta bytes pairs → IsPartitionedBy (λ (pair : IndexPair). is_before_seek mark user seq (separator_of user_key pair.separator)) pairs
+seek-come_first user_key delta bytes pairs mark user seq rows =
+    partitioned (is_before_seek mark user seq) user_key pairs (seek-first mark user seq) (index-in_order user_key delta bytes pairs rows)
+
+pub prev-come_first : (user_key delta : Bool) (bytes : List ℕ) (pairs : List IndexPair) (mark : Option ℕ) (user : List ℕ) (seq : ℕ)
+    → IndexRows user_key delta bytes pairs → IsPartitionedBy (λ (pair : IndexPair). is_before_prev mark user seq (separator_of user_key pair.separator)) pairs
+prev-come_first user_key delta bytes pairs mark user seq rows =
+    partitioned (is_before_prev mark user seq) user_key pairs (prev-first mark user seq) (index-in_order user_key delta bytes pairs rows)

@@ -9,3 +9,6 @@ pub mod PartWay
 pub mod PartRuns
 pub mod PartsOpen
 pub mod WorkedTrees
+pub mod FoundParts
+pub mod Landings
+pub mod FoundTree

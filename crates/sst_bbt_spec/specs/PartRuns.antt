@@ -1,7 +1,8 @@
 -- What separates the parts of an index, and the list that runs through them.
--- RocksDB: PartitionedIndexBuilder in table/block_based/index_builder.h, which gives a part the separator of its last row;
--- wiki page "Partitioned Index Filters".
--- Pinned by: what_stands_in_parts_is_ordered, a_separated_tree_runs, a_whole_index_is_parts_of_one_block
+-- RocksDB: PartitionedIndexBuilder in table/block_based/index_builder.h, which gives a part the separator of its last
+-- row; wiki page "Partitioned Index Filters".
+-- Pinned by: what_stands_in_parts_is_ordered, a_separated_tree_runs, a_whole_index_is_parts_of_one_block,
+-- the_tree_decides
 use Rattle.std.specs.Prelude.{◌≡◌, ◌≢◌, ℕ, List, [], ◌∷◌, map}
 use Rattle.std.specs.declared.cmp.Ordering.TheVariants.{Greater}
 use Rattle.sst_key.specs.declared.entries.Entry.{Entry}

@@ -1,8 +1,8 @@
 -- What the seven calls answer over the parts of an index: Get, Seek and SeekForPrev go by the top block to a part, by
--- the rows of the part to a data block, and there to an entry. Where the separators separate, these are the answers of the
--- list. Places are numbers in the list of all entries.
--- RocksDB: PartitionedIndexIterator (SeekImpl, FindBlockForward) in table/block_based/partitioned_index_iterator.cc, and
--- BlockBasedTableIterator (SeekImpl, SeekForPrev) in table/block_based/block_based_table_iterator.cc.
+-- the rows of the part to a data block, and there to an entry. Where the separators separate, these are the answers
+-- of the list. Places are numbers in the list of all entries.
+-- RocksDB: PartitionedIndexIterator (SeekImpl, FindBlockForward) in table/block_based/partitioned_index_iterator.cc,
+-- and BlockBasedTableIterator (SeekImpl, SeekForPrev) in table/block_based/block_based_table_iterator.cc.
 -- Pinned by: the_way_over_parts_is_the_lists, the_tree_decides
 use Rattle.std.specs.Prelude.{ℕ, ◌+◌, Bool, if◌then◌else◌, List, [], ◌∷◌, length, slice_get, Option, None, Some, option_and_then}
 use Rattle.std.specs.Option.{option_map}
@@ -50,8 +50,8 @@ abbrev pub get_in_parts : Option ℕ → List Part → List ℕ → ℕ → Opti
 get_in_parts mark parts user seq =
     option_and_then (λ i. where_passes (is_of_user user) i (slice_get (shown_in mark parts) i)) (seek_in_parts mark parts user seq)
 
--- where SeekForPrev lands: at the last entry that it passed, be it in the block or part before; at the last of all where
--- every separator of the top block is before
+-- where SeekForPrev lands: at the last entry that it passed, be it in the block or part before; at the last of all
+-- where every separator of the top block is before
 -- RocksDB: SeekForPrev, FindKeyBackward; that it is the last of all where every separator is before the target is own
 abbrev pub seek_for_prev_in_parts : Option ℕ → List Part → List ℕ → ℕ → Option ℕ
 seek_for_prev_in_parts mark parts user seq = last_passed (shown_in mark parts) (prev_passed_in mark parts user seq)

@@ -1,5 +1,5 @@
--- The index of a table as a tree: each row of the top block leads to a part of the index, and each row of a part to a data
--- block. A whole index has no parts of its own: each of its rows counts as a part that has this one row.
+-- The index of a table as a tree: each row of the top block leads to a part of the index, and each row of a part to a
+-- data block. A whole index has no parts of its own: each of its rows counts as a part that has this one row.
 -- RocksDB: PartitionedIndexBuilder in table/block_based/index_builder.h, PartitionIndexReader in
 -- table/block_based/partitioned_index_reader.h; wiki page "Partitioned Index Filters".
 use Rattle.std.specs.Prelude.{ℕ, Bool, true, false, List, [], ◌∷◌, ◌++◌, map}
@@ -33,7 +33,7 @@ stored_in parts = joined (map whole_of parts)
 
 -- a separator as a stored key: where separators are user keys, one stands as its stored key with tag 0, which is
 -- the last that has this user key
--- RocksDB: table/block_based/index_builder.h, ShortenedIndexBuilder (must_use_separator_with_seq_); that the tag is 0 is own
+-- RocksDB: table/block_based/index_builder.h, IndexBuilder::seperator_is_key_plus_seq; that the tag is 0 is own
 -- Pinned by: user_keys_are_compared_alone
 abbrev pub separator_of : Bool → List ℕ → List ℕ
 separator_of true key = key ++ fixed 8 0

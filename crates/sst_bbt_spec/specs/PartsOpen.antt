@@ -1,5 +1,5 @@
--- What a block-based file stands for, whatever form its index has: whole or in parts, with separators that are stored keys
--- or user keys, and handles that stand whole or are differences.
+-- What a block-based file stands for, whatever form its index has: whole or in parts, with separators that are stored
+-- keys or user keys, and handles that stand whole or are differences.
 -- RocksDB: BlockBasedTable::Open and CreateIndexReader in table/block_based/block_based_table_reader.cc; the properties
 -- rocksdb.block.based.table.index.type, rocksdb.index.key.is.user.key and rocksdb.index.value.is.delta.encoded in
 -- include/rocksdb/table_properties.h; wiki pages "Rocksdb BlockBasedTable Format" and "Partitioned Index Filters".
@@ -20,7 +20,8 @@ use Rattle.sst_bbt_spec.specs.Way.{IndexedBlock}
 use Rattle.sst_bbt_spec.specs.Parts.{Part, separator_of}
 use Rattle.sst_bbt_spec.specs.PartRuns.{PartsRun}
 
--- the form of an index: in parts or whole; separators are user keys, or stored keys; handles are differences, or stand whole
+-- the form of an index: in parts or whole; separators are user keys, or stored keys; handles are differences, or
+-- stand whole
 pub record IndexForm : Type 0 where
   pub is_parted : Bool
   pub has_user_keys : Bool
@@ -46,17 +47,21 @@ LeadToBlocks file end user_keys (pair ∷ pairs) (block ∷ blocks) =
     (separator_of user_keys pair.separator ≡ block.separator) × HoldsEntries file end pair.handle block.entries
     × LeadToBlocks file end user_keys pairs blocks
 
--- at the handle stands a part of the index, of one row at least, whose rows lead to these data blocks
-pub record HoldsPart (file : List ℕ) (end : ℕ) (form : IndexForm) (handle : Handle) (blocks : List IndexedBlock) : Type 0 where
+-- at the handle stands an index block that says these pairs, of which there is one at least
+pub record HoldsPairs (file : List ℕ) (end : ℕ) (form : IndexForm) (handle : Handle) (pairs : List IndexPair) : Type 0 where
   pub block : List ℕ
-  pub pairs : List IndexPair
   pub framed : Framed file end handle block
   pub rows : IndexRows form.has_user_keys form.has_differences block pairs
   pub some : 0 < length pairs
+
+-- at the handle stands a part of the index, whose rows lead to these data blocks
+pub record HoldsPart (file : List ℕ) (end : ℕ) (form : IndexForm) (handle : Handle) (blocks : List IndexedBlock) : Type 0 where
+  pub pairs : List IndexPair
+  pub holds : HoldsPairs file end form handle pairs
   pub lead : LeadToBlocks file end form.has_user_keys pairs blocks
 
--- A row of the top block leads to a part with these data blocks: in an index of parts the part stands at its handle; in a
--- whole index the row is itself the one row of the part.
+-- A row of the top block leads to a part with these data blocks: in an index of parts the part stands at its handle;
+-- in a whole index the row is itself the one row of the part.
 abbrev pub LeadsWithin : Bool → List ℕ → ℕ → IndexForm → IndexPair → List IndexedBlock → Type 0
 LeadsWithin true file end form pair blocks = HoldsPart file end form pair.handle blocks
 LeadsWithin false file end form pair blocks = LeadToBlocks file end form.has_user_keys (pair ∷ []) blocks

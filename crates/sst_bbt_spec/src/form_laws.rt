@@ -15,9 +15,9 @@ ghost use Rattle.sst_bbt_spec.specs.PartsOpen.{IndexForm, plain_index, PartsOpen
 
 /// The list that a file stands for is in order, whatever the form of its index, and its separators separate.
 ///
-/// `ordered`: the list is in order. `seqs`: the sequence numbers of each file that opens are below 2^56. `separate`: the
-/// separators of each part separate its blocks, and those of the top block the parts. `replies`: so what the calls answer by the
-/// way over the parts is what they answer of the list.
+/// `ordered`: the list is in order. `seqs`: the sequence numbers of each file that opens are below 2^56. `separate`:
+/// the separators of each part separate its blocks, and those of the top block the parts. `replies`: so what the
+/// calls answer by the way over the parts is what they answer of the list.
 /// RocksDB: `InternalKeyComparator::Compare` in db/dbformat.h; wiki page "Partitioned Index Filters".
 pub fn what_stands_in_parts_is_ordered()
     ensures ordered { (file : List ℕ) (form : IndexForm) (entries : List Entry) → StandsInForm file form entries → IsOrdered entries }
@@ -29,8 +29,8 @@ pub fn what_stands_in_parts_is_ordered()
 
 /// A file that opens to parts which its separators separate stands for the entries of these parts.
 ///
-/// No more is asked of the separators than that they separate, and that the last one of each part isn't after the part's own
-/// separator in the top block. RocksDB: wiki page "Partitioned Index Filters".
+/// No more is asked of the separators than that they separate, and that the last one of each part isn't after the
+/// part's own separator in the top block. RocksDB: wiki page "Partitioned Index Filters".
 pub fn a_separated_tree_runs()
     ensures { (file : List ℕ) (form : IndexForm) (parts : List Part) → PartsOpen file form parts → All IsWithinTop parts
         → SeparateParts parts → StandsInForm file form (stored_in parts) }
@@ -46,9 +46,10 @@ pub fn an_index_leads_to_one_tree()
 
 /// A whole index is parts of one block each.
 ///
-/// `answers` and `replies`: a call answers over such parts as over the blocks, by the index alone. `parts`: the parts of each
-/// whole index have one block each. `opens` and `opened`: with stored keys as separators and whole handles, a file opens to
-/// the blocks exactly where it opens to these parts. `stands` and `stood`: and it stands for the same list.
+/// `answers` and `replies`: a call answers over such parts as over the blocks, by the index alone. `parts`: the parts
+/// of each whole index have one block each. `opens` and `opened`: with stored keys as separators and whole handles, a
+/// file opens to the blocks exactly where it opens to these parts. `stands` and `stood`: and it stands for the same
+/// list.
 /// RocksDB: `BlockBasedTableOptions::IndexType` in include/rocksdb/table.h.
 pub fn a_whole_index_is_parts_of_one_block()
     ensures answers { (blocks : List IndexedBlock) (position : Option ℕ) (call : Call)
