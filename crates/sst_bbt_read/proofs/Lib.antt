@@ -8,13 +8,17 @@ pub mod FirstOpening
 pub mod JoinedBlocks
 pub mod Landings
 pub mod ListSearch
+pub mod Moved
+pub mod Moves
 pub mod NoFault
 pub mod OneOpening
 pub mod OpenSteps
+pub mod OpenedReader
 pub mod OpeningFail
 pub mod Reached
 pub mod RowsLed
 pub mod RunsRead
 pub mod RunsWalked
+pub mod Seated
 pub mod TableGrown
 pub mod WayOfBlocks
