@@ -3,6 +3,7 @@ pub mod BlockRows
 pub mod BlockSearch
 pub mod BlocksOnce
 pub mod BlocksOpened
+pub mod Chaining
 pub mod FaultsShown
 pub mod FirstOpening
 pub mod JoinedBlocks

@@ -14,10 +14,16 @@ pub record IsRefused (entries : List Entry) (fault : WriteFault) : Type 0 where
   pub parts : entries ≡ front ++ entry ∷ back
   pub why : reason front entry ≡ Some fault
 
+-- the entry at a place of the list, if there is one
+-- Own.
+-- Pinned by: look_up.found
+abbrev pub shown_at : List Entry → Option ℕ → Option Entry
+shown_at entries place = option_and_then (λ i. slice_get entries i) place
+
 -- the newest entry of a user key at a snapshot
 -- Pinned by: look_up.found
 abbrev pub found_in : List Entry → List ℕ → ℕ → Option Entry
-found_in entries user seq = option_and_then (λ i. slice_get entries i) (get_of entries user seq)
+found_in entries user seq = shown_at entries (get_of entries user seq)
 
 -- the entries before a cursor are those that were copied; with a cursor that stands nowhere all were
 -- Pinned by: all_entries.all
