@@ -12,7 +12,7 @@ use Rattle.sst_block.specs.Block.{AreOrdered}
 use Rattle.sst_bbt_spec.specs.Way.{is_separator_before}
 use Rattle.sst_bbt_spec.proofs.SeparatorOrder.{Before, UpTo, ahead, separator-words, separator-from_words}
 use Rattle.sst_bbt_read.specs.TableBlocks.{separator_rows}
-use Rattle.sst_bbt_read.specs.declared.bbt_reader.BlockEnd.{BlockEnd}
+use Rattle.sst_bbt_read.specs.declared.kept_table.BlockEnd.{BlockEnd}
 
 -- what comes before something that passes passes too
 abbrev pub Falls : {X : Type 0} → (X → Bool) → List X → Type 0

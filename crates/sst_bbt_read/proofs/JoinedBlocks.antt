@@ -6,7 +6,7 @@ use Rattle.sst_key.specs.declared.entries.Entry.{Entry}
 use Rattle.sst_bbt_spec.specs.Rows.{HasSeq}
 use Rattle.sst_bbt_spec.specs.Way.{IndexedBlock, joined}
 use Rattle.sst_bbt_read.specs.TableBlocks.{OpenTable, IsOpenTable, AreEnds, AreEntries, blocks_from, blocks_of}
-use Rattle.sst_bbt_read.specs.declared.bbt_reader.BlockEnd.{BlockEnd}
+use Rattle.sst_bbt_read.specs.declared.kept_table.BlockEnd.{BlockEnd}
 
 -- what lies behind a block is what lies behind its end
 behind : (start end : ℕ) (entries : List Entry) → start < end → drop (end - start) (drop start entries) ≡ drop end entries

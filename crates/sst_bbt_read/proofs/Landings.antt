@@ -7,9 +7,9 @@ use Rattle.sst_key.specs.declared.entries.Entry.{Entry}
 use Rattle.sst_key.specs.Entry.{IsOrdered}
 use Rattle.sst_key.specs.ListMachine.{is_before_target, is_up_to_target, place_in, place_before, below, up_to, last_of}
 use Rattle.sst_bbt_spec.specs.Way.{seek_tag, seek_for_prev_tag, way_seek, way_seek_for_prev}
-use Rattle.sst_bbt_read.specs.Cursors.{Belongs}
+use Rattle.sst_bbt_read.specs.Cursors.{IsPlace}
 use Rattle.sst_bbt_read.specs.TableBlocks.{OpenTable, IsOpenTable, AreEntries, blocks_of, start_at}
-use Rattle.sst_bbt_read.specs.declared.bbt_reader.BlockEnd.{BlockEnd}
+use Rattle.sst_bbt_read.specs.declared.kept_table.BlockEnd.{BlockEnd}
 use Rattle.sst_bbt_read.proofs.BlockSearch.{is_block_before}
 use Rattle.sst_bbt_read.proofs.WayOfBlocks.{part, length-part, block-within, block-has, seek-into, prev-into}
 
@@ -88,7 +88,7 @@ one_less zero (Some i) is = absurd (omega (arith, is.0))
 one_less (suc n) None is = absurd (is (omega arith))
 one_less (suc n) (Some i) is = ap (λ (k : ℕ). Some k) (omega (arith, is.1))
 
-pub before-belongs : (entries : List Entry) (n : ℕ) (place : Option ℕ) → SomeIff place (1 ≤ n) (n - 1) → n ≤ length entries → Belongs entries place
+pub before-belongs : (entries : List Entry) (n : ℕ) (place : Option ℕ) → SomeIff place (1 ≤ n) (n - 1) → n ≤ length entries → IsPlace entries place
 before-belongs entries n None is within = tt
 before-belongs entries n (Some i) is within = omega (arith, is.0, is.1, within)
 

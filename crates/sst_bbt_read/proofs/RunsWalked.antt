@@ -19,7 +19,7 @@ use Rattle.sst_bbt_spec.specs.Way.{IndexedBlock}
 use Rattle.sst_bbt_read.specs.Opening.{runs_read}
 use Rattle.sst_bbt_read.specs.TableBlocks.{OpenTable, IsOpenTable, AreEntries, AreEnds, row_blocks_of, blocks_from}
 use Rattle.sst_bbt_read.specs.declared.bbt_fault.BbtFault.{BbtFault}
-use Rattle.sst_bbt_read.specs.declared.bbt_reader.BlockEnd.{BlockEnd}
+use Rattle.sst_bbt_read.specs.declared.kept_table.BlockEnd.{BlockEnd}
 use Rattle.sst_bbt_read.proofs.TableGrown.{separators_of, keys_of, separators-ordered, separators-long}
 
 -- an index block has these rows, of which there are so many

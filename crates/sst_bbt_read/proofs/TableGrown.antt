@@ -10,7 +10,7 @@ use Rattle.sst_block.proofs.RowsCopied.{KeyAt, one_more}
 use Rattle.sst_bbt_spec.specs.Way.{IndexedBlock}
 use Rattle.sst_bbt_read.specs.TableBlocks.{AreEntries, blocks_from, AreEnds, separator_rows}
 use Rattle.sst_bbt_read.specs.Reader.{BlockAdded}
-use Rattle.sst_bbt_read.specs.declared.bbt_reader.BlockEnd.{BlockEnd}
+use Rattle.sst_bbt_read.specs.declared.kept_table.BlockEnd.{BlockEnd}
 
 ends-push : (start : ℕ) (ends : List BlockEnd) (count : ℕ) (last : BlockEnd) → AreEnds start ends count → count < last.end → AreEnds start (ends ++ last ∷ []) last.end
 ends-push start [] count last are more = (omega (arith, are), omega arith, refl)

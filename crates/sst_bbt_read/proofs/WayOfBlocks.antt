@@ -9,7 +9,7 @@ use Rattle.sst_key.specs.declared.entries.Entry.{Entry}
 use Rattle.sst_key.specs.ListMachine.{is_before_target, is_up_to_target, place_in, place_before, below, up_to, last_of}
 use Rattle.sst_bbt_spec.specs.Way.{IndexedBlock, joined, passed, last_passed, is_separator_before, seek_tag, seek_for_prev_tag, way_seek, way_seek_for_prev}
 use Rattle.sst_bbt_read.specs.TableBlocks.{OpenTable, IsOpenTable, AreEnds, blocks_from, blocks_of, start_at}
-use Rattle.sst_bbt_read.specs.declared.bbt_reader.BlockEnd.{BlockEnd}
+use Rattle.sst_bbt_read.specs.declared.kept_table.BlockEnd.{BlockEnd}
 use Rattle.sst_bbt_read.proofs.BlockSearch.{Falls, tail-falls, count-yes, count-no, none-behind, is_block_before, before-falls}
 use Rattle.sst_bbt_read.proofs.JoinedBlocks.{joined-table}
 

@@ -8,12 +8,12 @@ use Rattle.sst_key.specs.declared.calls.Reply.{Reply}
 use Rattle.sst_key.specs.declared.calls.Answer.{Answer}
 use Rattle.sst_key.specs.Entry.{entry_of}
 
--- the cursor stands on an entry of the list, or nowhere
+-- the place is that of an entry of the list, or nowhere
 -- RocksDB: include/rocksdb/iterator.h, Valid
--- Pinned by: next.exact
-abbrev pub Belongs : List Entry → Option ℕ → Type 0
-Belongs entries None = Unit {0}
-Belongs entries (Some i) = i < length entries
+-- Pinned by: next.way
+abbrev pub IsPlace : List Entry → Option ℕ → Type 0
+IsPlace entries None = Unit {0}
+IsPlace entries (Some i) = i < length entries
 
 -- a call's reply, and where the cursor is after it, are those of an answer
 abbrev pub Comes : Reply → Option ℕ → Answer → Type 0

@@ -1,7 +1,10 @@
 pub mod Cursors
 pub mod FaultText
+pub mod Kept
 pub mod Opening
 pub mod OpeningSteps
+pub mod Positions
 pub mod Reader
+pub mod Seats
 pub mod Shows
 pub mod TableBlocks

@@ -1,7 +1,7 @@
 -- The data blocks of a block-based file as a reader keeps them: all entries in one list, and for each block its separator
 -- and where its entries end.
 -- RocksDB: wiki page "Rocksdb BlockBasedTable Format"; table/block_based/block_based_table_reader.cc.
--- Pinned by: seek.exact
+-- Pinned by: seek.way
 use Rattle.std.specs.Prelude.{◌≡◌, ℕ, zero, suc, ◌-◌, ◌<◌, ◌≤◌, false, List, [], ◌∷◌, length, map, take, drop, All}
 use Rattle.sst_key.specs.declared.entries.Entry.{Entry}
 use Rattle.sst_key.specs.Entry.{IsOrdered}
@@ -11,7 +11,7 @@ use Rattle.sst_block.specs.Block.{Row, AreOrdered}
 use Rattle.sst_bbt_spec.specs.Rows.{HasSeq, rows_of}
 use Rattle.sst_bbt_spec.specs.Way.{IndexedBlock}
 use Rattle.sst_bbt_read.specs.Opening.{RowBlock}
-use Rattle.sst_bbt_read.specs.declared.bbt_reader.BlockEnd.{BlockEnd}
+use Rattle.sst_bbt_read.specs.declared.kept_table.BlockEnd.{BlockEnd}
 
 -- blocks of entries as they are read
 -- Own.
@@ -31,7 +31,7 @@ pub record OpenTable : Type 0 where
 
 -- the blocks with these ends, the first of which begins at `start`; `entries` are those of the whole table
 -- Own.
--- Pinned by: open.told, seek.exact
+-- Pinned by: open.told, seek.way
 abbrev pub blocks_from : ℕ → List BlockEnd → List Entry → List IndexedBlock
 blocks_from start [] entries = []
 blocks_from start (b ∷ rest) entries =
@@ -39,7 +39,7 @@ blocks_from start (b ∷ rest) entries =
 
 -- the blocks of a table
 -- Own.
--- Pinned by: open.told, seek.exact
+-- Pinned by: open.told, seek.way
 abbrev pub blocks_of : OpenTable → List IndexedBlock
 blocks_of table = blocks_from 0 table.ends table.entries
 
@@ -70,7 +70,7 @@ pub record AreEntries (entries : List Entry) : Type 0 where
 
 -- what a reader keeps of a table: the separators are stored keys in order, and the entries of each block are in order
 -- Own.
--- Pinned by: seek.exact, seek_for_prev.exact
+-- Pinned by: seek.way, seek_for_prev.way
 pub record IsOpenTable (table : OpenTable) : Type 0 where
   pub ends : AreEnds 0 table.ends (length table.entries)
   pub separators : All (λ (b : BlockEnd). 8 ≤ length b.separator) table.ends

@@ -34,10 +34,19 @@
 //!   ([`a_file_that_opens_shows_no_fault`]).
 //! - Of several things that are wrong with a file, the one whose step comes first is named: the steps of loading, the index, the
 //!   data blocks in the order of the index (`OpenStep`, specs/OpeningSteps.antt; [`the_fault_of_opening_is_the_first`]).
-//! - Each call of a [`BbtReader`] moves its [`Cursor`] as the way of the index says (`way_answer`, sst_bbt_spec). Where the
-//!   separators separate, these are the answers of the list.
+//! - A [`BbtReader`] has one seat for each [`Cursor`] that may be open at a time. On a file that opens, each call moves its cursor
+//!   as the way of the index says (`way_answer`, sst_bbt_spec); on one that stands for a list, as the list machine says. Every
+//!   other cursor stays where it stood (`OthersStay`, specs/Positions.antt). So each cursor answers as if it were alone.
+//! - These facts are relations between a reader, its cursors and a file: `Of`, `On` and `At` (specs/Positions.antt). `open` and
+//!   `cursor` give them and each call gives them again, so a caller chains them and looks into none. They need that the folder
+//!   tells, under the reader's name, the file that was opened (`Tells`).
+//! - Whatever the folder tells, a number falls with each Next from an entry, and is 0 where a cursor stands nowhere (`rest`,
+//!   specs/Positions.antt). So a walk ends.
+//! - Each cursor must be closed, and the reader shut: a program that leaves one open doesn't compile. An entry is lent, and a
+//!   program that holds it over a move of any cursor doesn't compile either.
 //!
-//! For now all entries of a file are kept in memory.
+//! For now all entries of a file are kept in memory, so the calls of a cursor don't touch the folder, and answer even where it
+//! tells nothing (`KeptMove`, specs/Kept.antt).
 //!
 //! RocksDB: wiki page "Rocksdb BlockBasedTable Format"; `BlockBasedTable` in
 //! table/block_based/block_based_table_reader.cc.
@@ -46,12 +55,15 @@
 mod bbt_fault;
 mod bbt_reader;
 mod block_rows;
+mod cursor;
 mod fault_text;
+mod kept_table;
 mod opening_laws;
 mod search;
 
 pub use bbt_fault::BbtFault;
-pub use bbt_reader::{BbtReader, BlockEnd, Cursor};
+pub use bbt_reader::BbtReader;
+pub use cursor::{Cursor, CursorStop};
 pub use opening_laws::{
     a_fault_is_shown, a_file_opens_to_its_blocks, a_file_that_opens_shows_no_fault,
     the_fault_of_opening_is_the_first,

@@ -9,9 +9,9 @@ ghost use Rattle.sst_bbt_read.specs.TableBlocks.{separator_rows};
 ghost use Rattle.sst_key.specs.declared.entries.Entry.{Entry as entry_type};
 ghost use Rattle.sst_key.specs.Entry.{IsOrdered};
 ghost use Rattle.sst_key.specs.ListMachine as machine;
-ghost use Rattle.sst_bbt_read.specs.declared.bbt_reader.BlockEnd as ends;
+ghost use Rattle.sst_bbt_read.specs.declared.kept_table.BlockEnd as ends;
 
-use crate::bbt_reader::BlockEnd;
+use crate::kept_table::BlockEnd;
 use sst_key::{Entry, TAG_LENGTH, target_cmp};
 use sst_num::fixed64;
 use std::cmp::Ordering;

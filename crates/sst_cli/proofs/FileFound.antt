@@ -10,8 +10,7 @@ use Rattle.sst_bbt_spec.proofs.Stands.{opens-seqs}
 use Rattle.sst_bbt_read.specs.Opening.{RowBlock, blocks_read}
 use Rattle.sst_num.specs.declared.stops.Stop.{Stop}
 use Rattle.sst_num.specs.declared.stops.Stop.TheVariants.{Damage, Device, Memory}
-use Rattle.sst_bbt_read.specs.TableBlocks.{OpenTable, IsOpenTable, blocks_of, row_blocks_of}
-use Rattle.sst_bbt_read.proofs.JoinedBlocks.{table-seqs}
+use Rattle.sst_bbt_read.specs.TableBlocks.{row_blocks_of}
 use Rattle.sst_bbt_read.specs.declared.bbt_fault.BbtFault.{BbtFault}
 use Rattle.sst_bbt_read.proofs.BlocksOnce.{row_blocks-one}
 use Rattle.sst_bbt_read.proofs.BlocksOpened.{blocks_read-opens, blocks_read-found}
@@ -49,31 +48,24 @@ pub not_missed : (held : Option Files) (name file : List ℕ) → IsTrue (misses
 not_missed None name file missed told = cc
 not_missed (Some files) name file missed told = missed_is_not_told (get files name) file missed told
 
--- a file that reads as blocks with sequence numbers opens to them
-pub reads_opens : (file : List ℕ) (blocks : List IndexedBlock) → All HasSeq (joined blocks) → blocks_read file ≡ Ok (row_blocks_of blocks) → Opens file blocks
-reads_opens file blocks seqs reads =
-    let found = blocks_read-found file (row_blocks_of blocks) reads in
-    let same = row_blocks-one found.0 blocks (opens-seqs file found.0 found.1) seqs (sym found.2) in
-    subst (Opens file) same found.1
-
 -- ---- what opening answered
 
--- the table of a file that was opened
-pub file_opens : (held : Option Files) (name : List ℕ) (result : Result OpenTable (Stop BbtFault)) (table : OpenTable) → result ≡ Ok table → IsOpenTable table
+-- the blocks of a file that was opened
+pub file_opens : {T : Type 0} (held : Option Files) (name : List ℕ) (result : Result T (Stop BbtFault)) (reader : T) (blocks : List IndexedBlock) → result ≡ Ok reader
     → (IsTrue (misses held name 0) → (result ≡ Err Device) ⊎ (result ≡ Err Memory))
-    → ((file : List ℕ) → file_of held name ≡ Some file → blocks_read file ≡ Ok (row_blocks_of (blocks_of table)))
-    → FileIs held name (λ file. Opens file (blocks_of table))
-file_opens held name result table is is_open absent told =
-    file_is held name (λ file. Opens file (blocks_of table))
-    (λ missed. elim (absent missed) [ inl device ↦ not_both result table Device is device | inr memory ↦ not_both result table Memory is memory ])
-    (λ file there. reads_opens file (blocks_of table) (table-seqs table is_open) (told file there))
+    → ((file : List ℕ) → file_of held name ≡ Some file → Opens file blocks)
+    → FileIs held name (λ file. Opens file blocks)
+file_opens held name result reader blocks is absent told =
+    file_is held name (λ file. Opens file blocks)
+    (λ missed. elim (absent missed) [ inl device ↦ not_both result reader Device is device | inr memory ↦ not_both result reader Memory is memory ])
+    told
 
-damage_apart : (result : Result OpenTable (Stop BbtFault)) (fault : BbtFault) → result ≡ Err (Damage fault) → (result ≡ Err Device) ⊎ (result ≡ Err Memory) → ⊥
+damage_apart : {T : Type 0} (result : Result T (Stop BbtFault)) (fault : BbtFault) → result ≡ Err (Damage fault) → (result ≡ Err Device) ⊎ (result ≡ Err Memory) → ⊥
 damage_apart result fault is (inl device) = let both = same_err result (Damage fault) Device is device in cc
 damage_apart result fault is (inr memory) = let both = same_err result (Damage fault) Memory is memory in cc
 
 -- the fault of one that wasn't
-pub file_damaged : (held : Option Files) (name : List ℕ) (result : Result OpenTable (Stop BbtFault)) (fault : BbtFault) → result ≡ Err (Damage fault)
+pub file_damaged : {T : Type 0} (held : Option Files) (name : List ℕ) (result : Result T (Stop BbtFault)) (fault : BbtFault) → result ≡ Err (Damage fault)
     → (IsTrue (misses held name 0) → (result ≡ Err Device) ⊎ (result ≡ Err Memory))
     → ((file : List ℕ) → file_of held name ≡ Some file → blocks_read file ≡ Err fault)
     → FileIs held name (λ file. blocks_read file ≡ Err fault)

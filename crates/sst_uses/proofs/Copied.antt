@@ -1,5 +1,6 @@
 -- How far the entries of a table were copied.
 use Rattle.std.proofs.Common.{◌≡◌, ℕ, ◌+◌, nat_lt, Bool, true, false, if◌then◌else◌, List, [], ◌∷◌, ◌++◌, length, take, Option, None, Some, option_and_then, slice_get, refl, sym, ap, ◌∙◌, subst, add-one, arith}
+use Rattle.std.specs.Option.{is_some}
 use Rattle.std.proofs.lemmas.Bool.{lt-ltb, ltb-true, ltb-false}
 use Rattle.std.proofs.lemmas.List.{take_all}
 use Rattle.std.proofs.lemmas.Option.{slice_get_within, get_or_from_slice_get}
@@ -27,7 +28,7 @@ landed true entries copied i is same = (same, ltb-true i (length entries) is)
 landed false entries copied i is same = same ∙ take_all i entries (ltb-false i (length entries) is)
 
 -- where a move lands is the position after it
-landed_at : (place : Option ℕ) → (lands place).position ≡ place
+pub landed_at : (place : Option ℕ) → (lands place).position ≡ place
 landed_at None = refl
 landed_at (Some i) = refl
 
@@ -40,3 +41,14 @@ one_more entries copied now (Some i) next e so_far lent more moved =
     let all = more ∙ ap (λ (c : List Entry). c ++ e ∷ []) so_far.0 ∙ one_on entries i e (sym lent) in
     let on = landed (nat_lt (i + 1) (length entries)) entries now (i + 1) refl all in
     subst (IsCopied entries now) (sym (moved ∙ landed_at (next_of entries i))) on
+
+-- an entry more was copied from where a cursor stands, and it moved on
+pub copied_on : (entries copied now : List Entry) (place : Option ℕ) (e : Entry) → is_some place ≡ true → ((i : ℕ) → place ≡ Some i → slice_get entries i ≡ Some e)
+    → IsCopied entries copied place → now ≡ copied ++ e ∷ [] → IsCopied entries now (steps_on entries place).position
+copied_on entries copied now None e some at so_far more = absurd cc
+copied_on entries copied now (Some i) e some at so_far more = one_more entries copied now (Some i) (steps_on entries (Some i)).position e so_far (sym (at i refl)) more refl
+
+-- all were copied where the cursor stands nowhere
+pub copied_all : (entries copied : List Entry) (place : Option ℕ) → is_some place ≡ false → IsCopied entries copied place → copied ≡ entries
+copied_all entries copied None none so_far = so_far
+copied_all entries copied (Some i) none so_far = absurd cc

@@ -1,29 +1,40 @@
 -- What an open table answers, where its file stands for a list.
-use Rattle.std.proofs.Common.{◌≡◌, ℕ, ◌-◌, List, Option, option_and_then, slice_get, All, Result, Err, sym, ap, ◌∙◌, subst}
+use Rattle.std.proofs.Common.{◌≡◌, ℕ, true, List, Option, None, Some, slice_get, Result, Ok, Err, refl, sym, ap, ◌∙◌}
+use Rattle.std.specs.Option.{is_some}
 use Rattle.sst_num.specs.declared.stops.Stop.{Stop}
 use Rattle.sst_num.specs.declared.stops.Stop.TheVariants.{Damage, Device, Memory}
 use Rattle.sst_key.specs.declared.entries.Entry.{Entry}
-use Rattle.sst_key.specs.ListMachine.{get_of}
-use Rattle.sst_bbt_spec.specs.Rows.{HasSeq}
-use Rattle.sst_bbt_spec.specs.Way.{joined, way_get}
-use Rattle.sst_bbt_spec.proofs.WayLaws.{get-same}
-use Rattle.sst_bbt_read.specs.TableBlocks.{OpenTable, blocks_of}
-use Rattle.sst_bbt_read.specs.Reader.{StandsFor, OpensTo}
+use Rattle.sst_key.specs.declared.calls.Answer.{Answer}
+use Rattle.sst_bbt_read.specs.Positions.{Moved, Found}
+use Rattle.sst_bbt_read.specs.Seats.{OpenReader}
 use Rattle.sst_bbt_read.specs.declared.bbt_fault.BbtFault.{BbtFault}
-use Rattle.sst_uses.specs.Uses.{found_in}
+use Rattle.sst_bbt_read.specs.declared.cursor.Cursor.{Cursor}
+use Rattle.sst_uses.specs.Uses.{shown_at}
 
--- a file that stands for a list isn't called damaged
-pub no_damage : {A : Type 0} (stop : Stop BbtFault) (entries : List Entry) (fault : BbtFault) → OpensTo (Err stop) entries
-    → ◌≡◌ {A = Result A (Stop BbtFault)} (Err stop) (Err (Damage fault)) → ⊥
-no_damage (Damage other) entries fault opens is = opens
-no_damage Device entries fault opens is = cc
-no_damage Memory entries fault opens is = cc
+-- a stop that is handed on is the one that came
+pub same-damage : {A B : Type 0} (stop : Stop BbtFault) (fault : BbtFault) → ◌≡◌ {A = Result A (Stop BbtFault)} (Err stop) (Err (Damage fault))
+    → ◌≡◌ {A = Result B (Stop BbtFault)} (Err stop) (Err (Damage fault))
+same-damage stop fault is = let same : stop ≡ Damage fault = cc in ap Err same
 
--- what is lent where a Get lands is what the list shows
-pub got : (table : OpenTable) (entries : List Entry) (user : List ℕ) (seq : ℕ) (place : Option ℕ) (lent : Option Entry) → StandsFor table entries
-    → place ≡ way_get (blocks_of table) user seq → lent ≡ option_and_then (λ i. slice_get table.entries i) place → lent ≡ found_in entries user seq
-got table entries user seq place lent stands at shown =
-    let same : get_of (joined (blocks_of table)) user seq ≡ get_of entries user seq = ap (λ (es : List Entry). get_of es user seq) stands.joined_are in
-    let seqs : All HasSeq (joined (blocks_of table)) = subst (λ (es : List Entry). All HasSeq es) (sym stands.joined_are) stands.seqs in
-    shown ∙ ap (λ (es : List Entry). option_and_then (λ i. slice_get es i) place) stands.are
-    ∙ ap (option_and_then (λ i. slice_get entries i)) (at ∙ get-same (blocks_of table) user seq stands.separate seqs ∙ same)
+-- a file that stands for a list isn't called damaged by a Get, and by no move
+pub no-damage-get : {A : Type 0} (stop : Stop BbtFault) (r : OpenReader) (c : Cursor) (file : List ℕ) (entries : List Entry) (place : Option ℕ) (fault : BbtFault)
+    → Found (Err stop) r c file entries place → ◌≡◌ {A = Result A (Stop BbtFault)} (Err stop) (Err (Damage fault)) → ⊥
+no-damage-get (Damage other) r c file entries place fault found is = found
+no-damage-get Device r c file entries place fault found is = cc
+no-damage-get Memory r c file entries place fault found is = cc
+
+pub no-damage-move : {A : Type 0} (stop : Stop BbtFault) (r : OpenReader) (c : Cursor) (file : List ℕ) (entries : List Entry) (answer : Answer) (fault : BbtFault)
+    → Moved (Err stop) r c file entries answer → ◌≡◌ {A = Result A (Stop BbtFault)} (Err stop) (Err (Damage fault)) → ⊥
+no-damage-move (Damage other) r c file entries answer fault moved is = moved
+no-damage-move Device r c file entries answer fault moved is = cc
+no-damage-move Memory r c file entries answer fault moved is = cc
+
+-- the entry on which a cursor stands is the one at its place
+pub one-shown : (entries : List Entry) (place : Option ℕ) (e : Entry) → is_some place ≡ true → ((i : ℕ) → place ≡ Some i → slice_get entries i ≡ Some e)
+    → Some e ≡ shown_at entries place
+one-shown entries None e some at = absurd cc
+one-shown entries (Some i) e some at = sym (at i refl)
+
+pub came-damage : {A : Type 0} (result : Result A (Stop BbtFault)) (passed first : Stop BbtFault) (fault : BbtFault) → result ≡ Err passed → passed ≡ first
+    → result ≡ Err (Damage fault) → ◌≡◌ {A = Result A (Stop BbtFault)} (Err first) (Err (Damage fault))
+came-damage result passed first fault is same told = ap Err (sym same) ∙ sym is ∙ told

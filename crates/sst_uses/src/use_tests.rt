@@ -1,7 +1,8 @@
-//! Each use called once: a table of two entries is written into memory, opened, asked and walked.
+//! Each use called once: a table of two entries is written into memory, opened, asked and walked, by one cursor and by two.
 ghost use Rattle.std.specs.Prelude.{◌≡◌, IfOk};
 
-use crate::{all_entries, look_up, write_table};
+use crate::{all_entries, ends, look_up, write_table};
+use sst_bbt_read::{BbtReader, CursorStop};
 use sst_bbt_write::BbtOptions;
 use sst_device::MemFolder;
 use sst_key::{Entry, Kind, WriteFault};
@@ -84,6 +85,49 @@ fn a_table_is_walked(rt: HostRuntime) -> Result<(), Fail> {
             }
             _ => assert!(rt; false),
         },
+        Err(_) => assert!(rt; false),
+    }
+    Ok(())
+}
+
+#[test]
+fn a_table_shows_both_ends(rt: HostRuntime) -> Result<(), Fail> {
+    let mut folder = folder(rt.alloc())?;
+    match ends(rt.alloc(), &mut folder, NAME) {
+        Ok(Some((first, last))) => {
+            assert_eq!(rt; first.user.as_slice(), b"a".as_slice());
+            assert_eq!(rt; last.user.as_slice(), b"b".as_slice());
+        }
+        _ => assert!(rt; false),
+    }
+    Ok(())
+}
+
+/// A reader with one seat refuses a second cursor, and opens one again once the first is closed.
+#[test]
+fn a_seat_is_given_again(rt: HostRuntime) -> Result<(), Fail> {
+    let mut folder = folder(rt.alloc())?;
+    match BbtReader::open(rt.alloc(), &mut folder, NAME, 1, 0) {
+        Ok(mut table) => {
+            match table.cursor() {
+                Ok(first) => {
+                    match table.cursor() {
+                        Ok(second) => {
+                            assert!(rt; false);
+                            table.close(second);
+                        }
+                        Err(stop) => assert_eq!(rt; stop, CursorStop::Full),
+                    }
+                    table.close(first);
+                }
+                Err(_) => assert!(rt; false),
+            }
+            match table.cursor() {
+                Ok(again) => table.close(again),
+                Err(_) => assert!(rt; false),
+            }
+            table.shut();
+        }
         Err(_) => assert!(rt; false),
     }
     Ok(())

@@ -1,246 +1,249 @@
-//! The calls of a reader: a cursor that moves over the list of its entries.
-ghost use Rattle.std.specs.Prelude.{◌≡◌, ℕ, ◌-◌, ◌<◌, List, length, take, drop, Option, None, Some, option_and_then, slice_get};
+//! The calls of a cursor: it moves over the entries of the file, and shows where it stands.
+ghost use Rattle.std.specs.Prelude.{◌≡◌, ℕ, ◌<◌, ◌↔◌, true, false, List, Option, Some, Ok, Err, OnErr, slice_get};
 ghost use Rattle.std.specs.Option.{is_some};
 ghost use Rattle.sst_key.specs.Entry.{entry_of};
-ghost use Rattle.sst_key.specs.ListMachine as machine;
-ghost use Rattle.sst_bbt_read.specs.Cursors.{Belongs, Comes, lent};
-ghost use Rattle.sst_bbt_read.specs.TableBlocks.{blocks_of, start_at};
-ghost use Rattle.sst_bbt_read.specs.declared.bbt_reader.BlockEnd.{BlockEnd};
-ghost use Rattle.sst_bbt_spec.specs.Way.{joined, way_seek, way_get, way_seek_for_prev};
+ghost use Rattle.sst_key.specs.ListMachine.{answer_of, get_of};
+ghost use Rattle.sst_key.specs.declared.calls.Call.TheVariants as call;
+ghost use Rattle.sst_key.specs.declared.calls.Format.TheVariants.{Block};
+ghost use Rattle.sst_key.specs.declared.entries.Entry.{Entry as entry_type};
+ghost use Rattle.sst_device.specs.Outside.{OnlyReads};
+ghost use Rattle.sst_bbt_spec.specs.BlockBased.{Opens};
+ghost use Rattle.sst_bbt_spec.specs.Way.{IndexedBlock, joined, way_answer, way_get};
+ghost use Rattle.sst_bbt_read.specs.Kept.{StandsOn, KeptMove, KeptGet};
+ghost use Rattle.sst_bbt_read.specs.Positions.{Tells, IsLost, Belongs, IsSame, is_placed, rest, On, At, SameReader, OthersStay, Goes, Moved, Finds, Found};
 
+use crate::bbt_fault::BbtFault;
 use crate::bbt_reader::BbtReader;
-use crate::search::{below, blocks_before_seek, blocks_before_seek_for_prev, up_to};
-use sst_key::{Entry, EntryView, Reply};
-use std::marker::Model;
-
-/// Where one walk over a reader stands. Contracts see the number of the entry, or None for nowhere.
-///
-/// It belongs to the reader that made it. RocksDB: `Iterator` in include/rocksdb/iterator.h.
-#[derive(Debug, Drop)]
-pub struct Cursor {
-    place: Option<usize>,
-}
-
-impl Model for Cursor {
-    ghost use Rattle.std.specs.Prelude.{ℕ, Option};
-
-    ghost Value = { Option ℕ };
-
-    ghost view = { λ c. c.place };
-}
-
-/// What a move that landed here replies.
-fn reply(place: Option<usize>) -> Reply
-    ensures { Comes result place (machine.lands place) }
-{
-    match place {
-        Some(_) => Reply::Shown,
-        None => Reply::None,
-    }
-}
+use crate::cursor::Cursor;
+use sst_device::Folder;
+use sst_key::{EntryView, Reply};
+use sst_num::Stop;
 
 impl BbtReader {
-    /// A cursor that stands nowhere.
-    pub fn cursor(&self) -> Cursor
-        ensures { result ≡ None }
-    {
-        Cursor { place: None }
-    }
-
-    /// The place, if it is one of the list.
-    fn place_in(&self, i: usize) -> Option<usize>
-        ensures place { result ≡ machine.place_in self.now.entries i }
-        ensures belongs { Belongs self.now.entries result }
-    {
-        if i < self.entries.len() {
-            Some(i)
-        } else {
-            None
-        }
-    }
-
-    /// The place after, if it is one of the list.
-    fn place_after(&self, i: usize) -> Option<usize>
-        ensures place { result ≡ machine.next_of self.now.entries i }
-        ensures belongs { Belongs self.now.entries result }
-    {
-        if i < self.entries.len() {
-            self.place_in(i + 1)
-        } else {
-            None
-        }
-    }
-
-    /// Where the entries of a block begin. `i` is below the number of blocks.
-    fn start_of(&self, i: usize) -> usize
-        requires { i < length self.now.ends }
-        ensures { result ≡ start_at 0 self.now.ends i }
-    {
-        match i.checked_sub(1) {
-            None => 0,
-            Some(before) => self.ends[before].end,
-        }
-    }
-
-    /// Where the entries of a block begin, and the entries. `i` is below the number of blocks.
-    fn block(&self, i: usize) -> (usize, &[Entry])
-        requires { i < length self.now.ends }
-        ensures start { result.0 ≡ start_at 0 self.now.ends i }
-        ensures entries { (b : BlockEnd) → slice_get self.now.ends i ≡ Some b
-            → result.1.now ≡ take (b.end - result.0) (drop result.0 self.now.entries) }
-    {
-        let start = self.start_of(i);
-        let end = self.ends[i].end;
-        (start, &self.entries[start..end])
-    }
-
-    /// Where Seek lands: the separators lead to a block, in which its entries are halved, or past all blocks.
-    fn seek_place(&self, user: &[u8], seq: u64) -> Option<usize>
-        ensures place { result ≡ way_seek (blocks_of self.now) user.now seq }
-        ensures belongs { Belongs self.now.entries result }
-        ensures joined { joined (blocks_of self.now) ≡ self.now.entries }
-    {
-        let i = blocks_before_seek(&self.ends, user, seq);
-        if i < self.ends.len() {
-            let (start, block) = self.block(i);
-            self.place_in(start + below(block, user, seq))
-        } else {
-            None
-        }
-    }
-
-    /// Where SeekForPrev lands: past all blocks it is the last entry.
-    fn seek_for_prev_place(&self, user: &[u8], seq: u64) -> Option<usize>
-        ensures place { result ≡ way_seek_for_prev (blocks_of self.now) user.now seq }
-        ensures belongs { Belongs self.now.entries result }
-    {
-        let i = blocks_before_seek_for_prev(&self.ends, user, seq);
-        if i < self.ends.len() {
-            let (start, block) = self.block(i);
-            (start + up_to(block, user, seq)).checked_sub(1)
-        } else {
-            self.entries.len().checked_sub(1)
-        }
-    }
-
-    /// The place, if the entry there has the user key.
-    fn of_user(&self, place: Option<usize>, user: &[u8]) -> Option<usize>
-        requires { Belongs self.now.entries place }
-        ensures place { result ≡ option_and_then (λ i. machine.where_passes (machine.is_of_user user.now) i (slice_get self.now.entries i)) place }
-        ensures belongs { Belongs self.now.entries result }
-    {
-        let i = place?;
-        match self.entries.get(i) {
-            Some(entry) if entry.user.as_slice() == user => Some(i),
-            _ => None,
-        }
-    }
-
-    /// Goes to the newest entry of the user key at the snapshot, and answers true; or to nowhere, and answers
-    /// false, where there is none. It looks where a Seek lands.
+    /// Goes to the newest entry of the user key at the snapshot, and answers true; or to nowhere, and answers false, where
+    /// there is none. It looks where a Seek lands. After an error the cursor stands nowhere.
     ///
     /// RocksDB: `BlockBasedTable::Get` in table/block_based/block_based_table_reader.cc.
-    pub fn get(&self, c: &mut Cursor, user: &[u8], seq: u64) -> bool
-        ensures place { c.new ≡ way_get (blocks_of self.now) user.now seq }
-        ensures found { result ≡ is_some c.new }
-        ensures belongs { Belongs self.now.entries c.new }
+    pub fn get<F: Folder>(
+        &mut self,
+        files: &mut F,
+        c: &mut Cursor,
+        user: &[u8],
+        seq: u64,
+    ) -> Result<bool, Stop<BbtFault>>
+        requires { Belongs self.old c.old }
+        ensures belongs { Belongs self.new c.new }
+        ensures same { IsSame c.old c.new }
+        ensures reader { SameReader (F.held files.old) self.old self.new }
+        ensures others { OthersStay (F.held files.old) self.old self.new c.old }
+        ensures way { (file : List ℕ) (blocks : List IndexedBlock) (place : Option ℕ) → Tells (F.held files.old) self.old file → Opens file blocks
+            → On self.old c.old file place → Finds result self.new c.new file (way_get blocks user.now seq) }
+        ensures moved { (file : List ℕ) (entries : List entry_type) (place : Option ℕ) → Tells (F.held files.old) self.old file
+            → At self.old c.old file entries place → Found result self.new c.new file entries (get_of entries user.now seq) }
+        ensures err { OnErr result (is_placed c.new ≡ false) }
+        ensures folder { OnlyReads (result ≡ Err Stop.Device) (IsLost (F.held files.old) self.old)
+            (F.held files.old) (F.held files.new) (F.faults files.old) (F.faults files.new) }
+        ensures kept { KeptGet result self.old self.new c.old c.new user.now seq }
     {
-        c.place = self.of_user(self.seek_place(user, seq), user);
-        c.place.is_some()
+        let _later = files;
+        Ok(self.table.get(&mut c.place, user, seq))
     }
 
-    /// Goes to the first entry.
+    /// Goes to the first entry. After an error the cursor stands nowhere.
     ///
     /// RocksDB: `Iterator::SeekToFirst`.
-    pub fn first(&self, c: &mut Cursor) -> Reply
-        ensures exact { Comes result c.new (machine.lands (machine.first_of self.now.entries)) }
-        ensures belongs { Belongs self.now.entries c.new }
+    pub fn first<F: Folder>(
+        &mut self,
+        files: &mut F,
+        c: &mut Cursor,
+    ) -> Result<Reply, Stop<BbtFault>>
+        requires { Belongs self.old c.old }
+        ensures belongs { Belongs self.new c.new }
+        ensures same { IsSame c.old c.new }
+        ensures reader { SameReader (F.held files.old) self.old self.new }
+        ensures others { OthersStay (F.held files.old) self.old self.new c.old }
+        ensures way { (file : List ℕ) (blocks : List IndexedBlock) (place : Option ℕ) → Tells (F.held files.old) self.old file → Opens file blocks
+            → On self.old c.old file place → Goes result self.new c.new file (way_answer blocks place call.First) }
+        ensures moved { (file : List ℕ) (entries : List entry_type) (place : Option ℕ) → Tells (F.held files.old) self.old file
+            → At self.old c.old file entries place → Moved result self.new c.new file entries (answer_of Block 0 entries place call.First) }
+        ensures err { OnErr result (is_placed c.new ≡ false) }
+        ensures folder { OnlyReads (result ≡ Err Stop.Device) (IsLost (F.held files.old) self.old)
+            (F.held files.old) (F.held files.new) (F.faults files.old) (F.faults files.new) }
+        ensures kept { KeptMove result self.old self.new c.old c.new call.First }
     {
-        c.place = self.place_in(0);
-        reply(c.place)
+        let _later = files;
+        Ok(self.table.first(&mut c.place))
     }
 
-    /// Goes to the last entry.
+    /// Goes to the last entry. After an error the cursor stands nowhere.
     ///
     /// RocksDB: `Iterator::SeekToLast`.
-    pub fn last(&self, c: &mut Cursor) -> Reply
-        ensures exact { Comes result c.new (machine.lands (machine.last_of self.now.entries)) }
-        ensures belongs { Belongs self.now.entries c.new }
+    pub fn last<F: Folder>(
+        &mut self,
+        files: &mut F,
+        c: &mut Cursor,
+    ) -> Result<Reply, Stop<BbtFault>>
+        requires { Belongs self.old c.old }
+        ensures belongs { Belongs self.new c.new }
+        ensures same { IsSame c.old c.new }
+        ensures reader { SameReader (F.held files.old) self.old self.new }
+        ensures others { OthersStay (F.held files.old) self.old self.new c.old }
+        ensures way { (file : List ℕ) (blocks : List IndexedBlock) (place : Option ℕ) → Tells (F.held files.old) self.old file → Opens file blocks
+            → On self.old c.old file place → Goes result self.new c.new file (way_answer blocks place call.Last) }
+        ensures moved { (file : List ℕ) (entries : List entry_type) (place : Option ℕ) → Tells (F.held files.old) self.old file
+            → At self.old c.old file entries place → Moved result self.new c.new file entries (answer_of Block 0 entries place call.Last) }
+        ensures err { OnErr result (is_placed c.new ≡ false) }
+        ensures folder { OnlyReads (result ≡ Err Stop.Device) (IsLost (F.held files.old) self.old)
+            (F.held files.old) (F.held files.new) (F.faults files.old) (F.faults files.new) }
+        ensures kept { KeptMove result self.old self.new c.old c.new call.Last }
     {
-        c.place = self.entries.len().checked_sub(1);
-        reply(c.place)
+        let _later = files;
+        Ok(self.table.last(&mut c.place))
     }
 
     /// Goes to the first entry at or after the target, by the way of the index: to nowhere where every separator is before
-    /// the target.
+    /// the target. After an error the cursor stands nowhere.
     ///
     /// RocksDB: `BlockBasedTableIterator::Seek` in table/block_based/block_based_table_iterator.cc.
-    pub fn seek(&self, c: &mut Cursor, user: &[u8], seq: u64) -> Reply
-        ensures exact { Comes result c.new (machine.lands (way_seek (blocks_of self.now) user.now seq)) }
-        ensures belongs { Belongs self.now.entries c.new }
+    pub fn seek<F: Folder>(
+        &mut self,
+        files: &mut F,
+        c: &mut Cursor,
+        user: &[u8],
+        seq: u64,
+    ) -> Result<Reply, Stop<BbtFault>>
+        requires { Belongs self.old c.old }
+        ensures belongs { Belongs self.new c.new }
+        ensures same { IsSame c.old c.new }
+        ensures reader { SameReader (F.held files.old) self.old self.new }
+        ensures others { OthersStay (F.held files.old) self.old self.new c.old }
+        ensures way { (file : List ℕ) (blocks : List IndexedBlock) (place : Option ℕ) → Tells (F.held files.old) self.old file → Opens file blocks
+            → On self.old c.old file place → Goes result self.new c.new file (way_answer blocks place (call.Seek (record { user = user.now; seq = seq }))) }
+        ensures moved { (file : List ℕ) (entries : List entry_type) (place : Option ℕ) → Tells (F.held files.old) self.old file
+            → At self.old c.old file entries place → Moved result self.new c.new file entries (answer_of Block 0 entries place (call.Seek (record { user = user.now; seq = seq }))) }
+        ensures err { OnErr result (is_placed c.new ≡ false) }
+        ensures folder { OnlyReads (result ≡ Err Stop.Device) (IsLost (F.held files.old) self.old)
+            (F.held files.old) (F.held files.new) (F.faults files.old) (F.faults files.new) }
+        ensures kept { KeptMove result self.old self.new c.old c.new (call.Seek (record { user = user.now; seq = seq })) }
     {
-        c.place = self.seek_place(user, seq);
-        reply(c.place)
+        let _later = files;
+        Ok(self.table.seek(&mut c.place, user, seq))
     }
 
     /// Goes to the last entry at or before the target, by the way of the index: to the last of all where every separator
-    /// is before the target.
+    /// is before the target. After an error the cursor stands nowhere.
     ///
     /// RocksDB: `BlockBasedTableIterator::SeekForPrev` in table/block_based/block_based_table_iterator.cc.
-    pub fn seek_for_prev(&self, c: &mut Cursor, user: &[u8], seq: u64) -> Reply
-        ensures exact { Comes result c.new (machine.lands (way_seek_for_prev (blocks_of self.now) user.now seq)) }
-        ensures belongs { Belongs self.now.entries c.new }
+    pub fn seek_for_prev<F: Folder>(
+        &mut self,
+        files: &mut F,
+        c: &mut Cursor,
+        user: &[u8],
+        seq: u64,
+    ) -> Result<Reply, Stop<BbtFault>>
+        requires { Belongs self.old c.old }
+        ensures belongs { Belongs self.new c.new }
+        ensures same { IsSame c.old c.new }
+        ensures reader { SameReader (F.held files.old) self.old self.new }
+        ensures others { OthersStay (F.held files.old) self.old self.new c.old }
+        ensures way { (file : List ℕ) (blocks : List IndexedBlock) (place : Option ℕ) → Tells (F.held files.old) self.old file → Opens file blocks
+            → On self.old c.old file place → Goes result self.new c.new file (way_answer blocks place (call.SeekForPrev (record { user = user.now; seq = seq }))) }
+        ensures moved { (file : List ℕ) (entries : List entry_type) (place : Option ℕ) → Tells (F.held files.old) self.old file
+            → At self.old c.old file entries place → Moved result self.new c.new file entries (answer_of Block 0 entries place (call.SeekForPrev (record { user = user.now; seq = seq }))) }
+        ensures err { OnErr result (is_placed c.new ≡ false) }
+        ensures folder { OnlyReads (result ≡ Err Stop.Device) (IsLost (F.held files.old) self.old)
+            (F.held files.old) (F.held files.new) (F.faults files.old) (F.faults files.new) }
+        ensures kept { KeptMove result self.old self.new c.old c.new (call.SeekForPrev (record { user = user.now; seq = seq })) }
     {
-        c.place = self.seek_for_prev_place(user, seq);
-        reply(c.place)
+        let _later = files;
+        Ok(self.table.seek_for_prev(&mut c.place, user, seq))
     }
 
-    /// Goes one entry on; from nowhere it stays there.
+    /// Goes one entry on; from nowhere it stays there. After an error the cursor stands nowhere.
     ///
     /// RocksDB: `Iterator::Next`.
-    pub fn next(&self, c: &mut Cursor) -> Reply
-        requires { Belongs self.now.entries c.old }
-        ensures exact { Comes result c.new (machine.steps_on self.now.entries c.old) }
-        ensures belongs { Belongs self.now.entries c.new }
+    pub fn next<F: Folder>(
+        &mut self,
+        files: &mut F,
+        c: &mut Cursor,
+    ) -> Result<Reply, Stop<BbtFault>>
+        requires { Belongs self.old c.old }
+        ensures belongs { Belongs self.new c.new }
+        ensures same { IsSame c.old c.new }
+        ensures reader { SameReader (F.held files.old) self.old self.new }
+        ensures others { OthersStay (F.held files.old) self.old self.new c.old }
+        ensures way { (file : List ℕ) (blocks : List IndexedBlock) (place : Option ℕ) → Tells (F.held files.old) self.old file → Opens file blocks
+            → On self.old c.old file place → Goes result self.new c.new file (way_answer blocks place call.Next) }
+        ensures moved { (file : List ℕ) (entries : List entry_type) (place : Option ℕ) → Tells (F.held files.old) self.old file
+            → At self.old c.old file entries place → Moved result self.new c.new file entries (answer_of Block 0 entries place call.Next) }
+        ensures err { OnErr result (is_placed c.new ≡ false) }
+        ensures nowhere { (result ≡ Ok Reply.NotPositioned) ↔ (is_placed c.old ≡ false) }
+        ensures lowers { is_placed c.old ≡ true → rest self.new c.new < rest self.old c.old }
+        ensures folder { OnlyReads (result ≡ Err Stop.Device) (IsLost (F.held files.old) self.old)
+            (F.held files.old) (F.held files.new) (F.faults files.old) (F.faults files.new) }
+        ensures kept { KeptMove result self.old self.new c.old c.new call.Next }
     {
-        match c.place {
-            None => Reply::NotPositioned,
-            Some(i) => {
-                c.place = self.place_after(i);
-                reply(c.place)
-            }
-        }
+        let _later = files;
+        Ok(self.table.next(&mut c.place))
     }
 
-    /// Goes one entry back; from nowhere it stays there.
+    /// Goes one entry back; from nowhere it stays there. After an error the cursor stands nowhere.
     ///
     /// RocksDB: `Iterator::Prev`.
-    pub fn prev(&self, c: &mut Cursor) -> Reply
-        requires { Belongs self.now.entries c.old }
-        ensures exact { Comes result c.new (machine.steps_back c.old) }
-        ensures belongs { Belongs self.now.entries c.new }
+    pub fn prev<F: Folder>(
+        &mut self,
+        files: &mut F,
+        c: &mut Cursor,
+    ) -> Result<Reply, Stop<BbtFault>>
+        requires { Belongs self.old c.old }
+        ensures belongs { Belongs self.new c.new }
+        ensures same { IsSame c.old c.new }
+        ensures reader { SameReader (F.held files.old) self.old self.new }
+        ensures others { OthersStay (F.held files.old) self.old self.new c.old }
+        ensures way { (file : List ℕ) (blocks : List IndexedBlock) (place : Option ℕ) → Tells (F.held files.old) self.old file → Opens file blocks
+            → On self.old c.old file place → Goes result self.new c.new file (way_answer blocks place call.Prev) }
+        ensures moved { (file : List ℕ) (entries : List entry_type) (place : Option ℕ) → Tells (F.held files.old) self.old file
+            → At self.old c.old file entries place → Moved result self.new c.new file entries (answer_of Block 0 entries place call.Prev) }
+        ensures err { OnErr result (is_placed c.new ≡ false) }
+        ensures nowhere { (result ≡ Ok Reply.NotPositioned) ↔ (is_placed c.old ≡ false) }
+        ensures folder { OnlyReads (result ≡ Err Stop.Device) (IsLost (F.held files.old) self.old)
+            (F.held files.old) (F.held files.new) (F.faults files.old) (F.faults files.new) }
+        ensures kept { KeptMove result self.old self.new c.old c.new call.Prev }
     {
-        match c.place {
-            None => Reply::NotPositioned,
-            Some(i) => {
-                c.place = i.checked_sub(1);
-                reply(c.place)
-            }
-        }
+        let _later = files;
+        Ok(self.table.prev(&mut c.place))
     }
 
-    /// The entry on which the cursor stands, lent; none where it stands nowhere. It is one of a block.
-    pub fn entry(&self, c: &Cursor) -> Option<EntryView<'_>>
-        requires { Belongs self.now.entries c.now }
-        ensures lent { lent result ≡ option_and_then (λ i. slice_get self.now.entries i) c.now }
-        ensures joined { joined (blocks_of self.now) ≡ self.now.entries }
+    /// Whether the cursor stands on an entry. Takes no memory.
+    ///
+    /// RocksDB: `Iterator::Valid`.
+    pub fn stands(&self, c: &Cursor) -> bool
+        ensures placed { result ≡ is_placed c.now }
+        ensures rest { Belongs self.now c.now → ((result ≡ true) ↔ (0 < rest self.now c.now)) }
+        ensures on { (file : List ℕ) (place : Option ℕ) → On self.now c.now file place → result ≡ is_some place }
+        ensures at { (file : List ℕ) (entries : List entry_type) (place : Option ℕ) → At self.now c.now file entries place
+            → result ≡ is_some place }
+        ensures kept { (blocks : List IndexedBlock) (place : Option ℕ) → StandsOn self.now c.now blocks place → result ≡ is_some place }
     {
-        let entry = self.entries.get(c.place?)?;
-        Some(EntryView {
-            user: entry.user.as_slice(),
-            seq: entry.seq,
-            kind: entry.kind,
-            value: entry.value.as_slice(),
-        })
+        c.place.is_some()
+    }
+
+    /// The entry on which the cursor stands, lent. Takes no memory.
+    ///
+    /// RocksDB: `Iterator::key` and `Iterator::value`.
+    pub fn entry<'a>(&'a self, c: &'a Cursor) -> EntryView<'a>
+        requires belongs { Belongs self.now c.now }
+        requires stands { is_placed c.now ≡ true }
+        ensures on { (file : List ℕ) (blocks : List IndexedBlock) (i : ℕ) → Opens file blocks → On self.now c.now file (Some i)
+            → slice_get (joined blocks) i ≡ Some (entry_of result) }
+        ensures at { (file : List ℕ) (entries : List entry_type) (i : ℕ) → At self.now c.now file entries (Some i)
+            → slice_get entries i ≡ Some (entry_of result) }
+        ensures kept { (blocks : List IndexedBlock) (i : ℕ) → StandsOn self.now c.now blocks (Some i)
+            → slice_get (joined blocks) i ≡ Some (entry_of result) }
+    {
+        match c.place {
+            Some(place) => self.table.entry(place),
+            None => unreachable!(),
+        }
     }
 }

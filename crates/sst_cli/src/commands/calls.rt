@@ -1,6 +1,9 @@
 //! The command that answers calls from a file: the input is read and checked as a whole before the file is opened.
 ghost use Rattle.std.specs.Prelude.{◌≡◌, ℕ, List, [], Option};
-ghost use Rattle.sst_bbt_read.specs.TableBlocks.{blocks_of};
+ghost use Rattle.sst_bbt_read.specs.Kept.{Keeps};
+ghost use Rattle.sst_bbt_read.specs.Seats.{seats_of, open_of};
+ghost use Rattle.sst_bbt_spec.specs.Way.{IndexedBlock};
+ghost use Rattle.sst_cli.specs.Answering.{IsQuiet};
 ghost use Rattle.sst_cli.specs.Behaviour.{Carries, world};
 ghost use Rattle.sst_cli.specs.CallsCommand.{answers_of, calls_command};
 ghost use Rattle.sst_cli.specs.OpenFile.{cut_by, on_file};
@@ -52,20 +55,32 @@ fn answer_calls<F: Folder, O: Sink>(
         (world (F.held files.new) left (O.written out.new) (F.faults files.new) intake (O.faults out.new))
         result (files.new ≡ files.old) (Unit {0}) }
 {
-    match BbtReader::open(alloc, files, name) {
-        Ok(reader) => print_all(alloc, &reader, calls, out),
+    match BbtReader::open(alloc, files, name, 2, 0) {
+        Ok(reader) => print_all(alloc, reader, files, calls, out),
         Err(Stop::Damage(fault)) => print_fault(alloc, out, fault),
         Err(Stop::Device) => Status::Device,
         Err(Stop::Memory) => Status::Memory,
     }
 }
 
-/// Prints the answers of an open file.
-fn print_all<O: Sink>(alloc: Global, reader: &BbtReader, calls: &[Call], out: &mut O) -> Status
-    ensures { IsPrinted result (answers_of calls.now (blocks_of reader.now)) (O.written out.old) (O.written out.new)
-        (O.faults out.old) (O.faults out.new) }
+/// Prints the answers of an open file, by two cursors: one has the position, the other is for each Get.
+fn print_all<F: Folder, O: Sink>(
+    alloc: Global,
+    reader: BbtReader,
+    files: &mut F,
+    calls: &[Call],
+    out: &mut O,
+) -> Status
+    requires seats { (seats_of reader ≡ 2) × (open_of reader ≡ 0) }
+    requires kept { (blocks : List IndexedBlock) × Keeps reader blocks }
+    ensures printed { (blocks : List IndexedBlock) → Keeps reader blocks
+        → IsPrinted result (answers_of calls.now blocks) (O.written out.old) (O.written out.new) (O.faults out.old) (O.faults out.new) }
+    ensures folder { IsQuiet (F.held files.old) (F.held files.new) (F.faults files.old) (F.faults files.new) }
 {
-    match print_answers(alloc, reader, calls, out) {
+    let mut table = reader;
+    let printed = print_answers(alloc, &mut table, files, calls, out);
+    table.shut();
+    match printed {
         Ok(()) => Status::Done,
         Err(stop) => status_of(stop),
     }

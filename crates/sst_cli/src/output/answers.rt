@@ -1,92 +1,147 @@
 //! The answers to a list of calls.
-ghost use Rattle.std.specs.Prelude.{◌≡◌, ℕ, List, [], ◌++◌, take, Option, option_and_then, slice_get, Err, OnOk, OnErr};
+ghost use Rattle.std.specs.Prelude.{◌≡◌, ℕ, List, [], ◌++◌, take, Option, None, Some, Ok, Err, IfSome, IfNone, OnOk, OnErr, slice_get, option_and_then};
 ghost use Rattle.std.specs.Io.KnownBytes.{append_known};
-ghost use Rattle.sst_key.specs.ListMachine.{shows};
-ghost use Rattle.sst_device.specs.Outside.{CountsFaults};
+ghost use Rattle.sst_key.specs.declared.calls.Answer.{Answer as answer_type};
+ghost use Rattle.sst_device.specs.Outside.{CountsFaults, OnlyReads};
+ghost use Rattle.sst_key.specs.declared.calls.Call.TheVariants as calls;
+ghost use Rattle.sst_cli.specs.Answering.{IsMove, IsQuiet, StandBoth, replied, reply_text};
 ghost use Rattle.sst_cli.specs.Replies.{answer_line, way_text};
-ghost use Rattle.sst_bbt_read.specs.Cursors.{Belongs, Comes, entry_shown, lent};
-ghost use Rattle.sst_bbt_read.specs.TableBlocks.{blocks_of};
-ghost use Rattle.sst_bbt_spec.specs.Way.{joined, way_answer, way_get};
+ghost use Rattle.sst_bbt_read.specs.Cursors.{lent};
+ghost use Rattle.sst_bbt_read.specs.Kept.{Answers, Keeps, KeptMove, OthersStand, StandsOn};
+ghost use Rattle.sst_bbt_read.specs.Positions.{AreTwo, Belongs, IsLost, IsSame};
+ghost use Rattle.sst_bbt_read.specs.Seats.{SameSeats, seats_of, open_of};
+ghost use Rattle.sst_bbt_spec.specs.Way.{IndexedBlock, joined, way_answer};
 
-use sst_bbt_read::{BbtReader, Cursor};
-use sst_device::{DevStop, Sink, put_all};
+use sst_bbt_read::{BbtFault, BbtReader, Cursor, CursorStop};
+use sst_device::{DevStop, Folder, Sink, put_all};
 use sst_key::{Call, EntryView, Reply, Target};
-use sst_num::Memory;
+use sst_num::{Memory, Stop};
 use sst_text::put_reply_line;
 use std::alloc::Global;
 
 /// How many bytes of text wait before they are put.
 pub const PIECE: usize = 65_536;
 
-/// Answers a Get with a cursor of its own.
-fn look_up<'r>(reader: &'r BbtReader, target: &Target) -> (Reply, Option<EntryView<'r>>)
-    ensures exact { (position : Option ℕ) → Comes result.0 position (shows position (way_get (blocks_of reader.now) target.now.user target.now.seq)) }
-    ensures shown { (position : Option ℕ) → lent result.1 ≡ entry_shown (joined (blocks_of reader.now))
-        (shows position (way_get (blocks_of reader.now) target.now.user target.now.seq)) }
-{
-    let mut found = reader.cursor();
-    let reply = if reader.get(&mut found, target.user.as_slice(), target.seq) {
-        Reply::Shown
-    } else {
-        Reply::None
-    };
-    (reply, reader.entry(&found))
-}
-
-/// A reply, and the entry on which the cursor stands.
-fn at<'r>(reader: &'r BbtReader, reply: Reply, position: &Cursor) -> (Reply, Option<EntryView<'r>>)
-    requires { Belongs reader.now.entries position.now }
-    ensures reply { result.0 ≡ reply }
-    ensures shown { lent result.1 ≡ option_and_then (λ i. slice_get reader.now.entries i) position.now }
-    ensures joined { joined (blocks_of reader.now) ≡ reader.now.entries }
-{
-    (reply, reader.entry(position))
-}
-
-/// Answers a call: the reply, and the entry that it shows. Get leaves the position, every other call moves it.
-fn answer<'r>(
-    reader: &'r BbtReader,
-    position: &mut Cursor,
-    call: &Call,
-) -> (Reply, Option<EntryView<'r>>)
-    requires { Belongs reader.now.entries position.old }
-    ensures exact { Comes result.0 position.new (way_answer (blocks_of reader.now) position.old call.now) }
-    ensures shown { lent result.1 ≡ entry_shown (joined (blocks_of reader.now))
-        (way_answer (blocks_of reader.now) position.old call.now) }
-    ensures belongs { Belongs reader.now.entries position.new }
+/// The target of a Get; none for each other call, which moves the position.
+fn target_of(call: &Call) -> Option<&Target>
+    ensures get { IfSome result (λ target. call.now ≡ calls.Get target.now) }
+    ensures move_ { IfNone result (IsMove call.now) }
 {
     match call {
-        Call::Get(target) => look_up(reader, target),
-        Call::First => at(reader, reader.first(position), position),
-        Call::Last => at(reader, reader.last(position), position),
-        Call::Seek(target) => {
-            let reply = reader.seek(position, target.user.as_slice(), target.seq);
-            at(reader, reply, position)
-        }
-        Call::SeekForPrev(target) => {
-            let reply = reader.seek_for_prev(position, target.user.as_slice(), target.seq);
-            at(reader, reply, position)
-        }
-        Call::Next => at(reader, reader.next(position), position),
-        Call::Prev => at(reader, reader.prev(position), position),
+        Call::Get(target) => Some(target),
+        Call::First => None,
+        Call::Last => None,
+        Call::Seek(_) => None,
+        Call::SeekForPrev(_) => None,
+        Call::Next => None,
+        Call::Prev => None,
     }
 }
 
-/// Answers a call and appends its line. Where memory runs out, `text` holds its old bytes followed by any.
-fn put_answer(
-    reader: &BbtReader,
+/// Moves the position by a call that isn't Get.
+fn move_by<F: Folder>(
+    reader: &mut BbtReader,
+    files: &mut F,
     position: &mut Cursor,
+    call: &Call,
+) -> Result<Reply, Stop<BbtFault>>
+    requires belongs { Belongs reader.old position.old }
+    requires move_ { IsMove call.now }
+    ensures same { IsSame position.old position.new }
+    ensures seats { SameSeats reader.old reader.new }
+    ensures folder { OnlyReads (result ≡ Err Stop.Device) (IsLost (F.held files.old) reader.old)
+        (F.held files.old) (F.held files.new) (F.faults files.old) (F.faults files.new) }
+    ensures kept { KeptMove result reader.old reader.new position.old position.new call.now }
+{
+    match call {
+        Call::Get(_) => unreachable!(),
+        Call::First => reader.first(files, position),
+        Call::Last => reader.last(files, position),
+        Call::Seek(target) => reader.seek(files, position, target.user.as_slice(), target.seq),
+        Call::SeekForPrev(target) => {
+            reader.seek_for_prev(files, position, target.user.as_slice(), target.seq)
+        }
+        Call::Next => reader.next(files, position),
+        Call::Prev => reader.prev(files, position),
+    }
+}
+
+/// The reply of a Get, which stops as it stops.
+fn reply_of(found: Result<bool, Stop<BbtFault>>) -> Result<Reply, Stop<BbtFault>>
+    ensures { result ≡ replied found }
+{
+    match found {
+        Ok(true) => Ok(Reply::Shown),
+        Ok(false) => Ok(Reply::None),
+        Err(stop) => Err(stop),
+    }
+}
+
+/// The entry on which a cursor stands, if it stands on one.
+fn shown<'a>(reader: &'a BbtReader, cursor: &'a Cursor) -> Option<EntryView<'a>>
+    requires { Belongs reader.now cursor.now }
+    ensures { (blocks : List IndexedBlock) (place : Option ℕ) → StandsOn reader.now cursor.now blocks place
+        → lent result ≡ option_and_then (λ i. slice_get (joined blocks) i) place }
+{
+    if reader.stands(cursor) {
+        Some(reader.entry(cursor))
+    } else {
+        None
+    }
+}
+
+/// Appends the line of an answer; it shows the entry on which the cursor stands. Where memory runs out, `text` holds its old
+/// bytes followed by any.
+fn put_line(
+    text: &mut Vec<u8>,
+    reader: &BbtReader,
+    cursor: &Cursor,
+    replied: Result<Reply, Stop<BbtFault>>,
+    call: &Call,
+) -> Result<(), Memory>
+    requires { (blocks : List IndexedBlock) × (answer : answer_type) × Answers replied reader.now cursor.now blocks answer }
+    ensures { (blocks : List IndexedBlock) (answer : answer_type) → Answers replied reader.now cursor.now blocks answer
+        → OnOk result (text.new.items ≡ text.old.items
+        ++ reply_text answer.reply (option_and_then (λ i. slice_get (joined blocks) i) answer.position) call.now) }
+{
+    match replied {
+        Ok(reply) => put_reply_line(text, reply, shown(reader, cursor), call),
+        Err(_) => unreachable!(),
+    }
+}
+
+/// Answers a call and appends its line. Get leaves the position and moves `found`, every other call moves the position. Where
+/// memory runs out, `text` holds its old bytes followed by any.
+fn put_answer<F: Folder>(
+    reader: &mut BbtReader,
+    files: &mut F,
+    position: &mut Cursor,
+    found: &mut Cursor,
     call: &Call,
     text: &mut Vec<u8>,
 ) -> Result<(), Memory>
-    requires { Belongs reader.now.entries position.old }
-    ensures line { OnOk result (text.new.items ≡ text.old.items
-        ++ answer_line (joined (blocks_of reader.now)) call.now (way_answer (blocks_of reader.now) position.old call.now)) }
-    ensures position { position.new ≡ (way_answer (blocks_of reader.now) position.old call.now).position }
-    ensures belongs { Belongs reader.now.entries position.new }
+    requires two { AreTwo position.old found.old }
+    requires kept { (blocks : List IndexedBlock) × StandBoth reader.old position.old found.old blocks }
+    ensures line { (blocks : List IndexedBlock) (place : Option ℕ) → StandsOn reader.old position.old blocks place
+        → OnOk result (text.new.items ≡ text.old.items ++ answer_line (joined blocks) call.now (way_answer blocks place call.now)) }
+    ensures stands { (blocks : List IndexedBlock) (place : Option ℕ) → StandsOn reader.old position.old blocks place
+        → StandsOn reader.new position.new blocks (way_answer blocks place call.now).position }
+    ensures both { (blocks : List IndexedBlock) → StandBoth reader.old position.old found.old blocks
+        → StandBoth reader.new position.new found.new blocks }
+    ensures same { IsSame position.old position.new × IsSame found.old found.new }
+    ensures seats { SameSeats reader.old reader.new }
+    ensures folder { IsQuiet (F.held files.old) (F.held files.new) (F.faults files.old) (F.faults files.new) }
 {
-    let (reply, shown) = answer(reader, position, call);
-    put_reply_line(text, reply, shown, call)
+    match target_of(call) {
+        Some(target) => {
+            let found_one = reader.get(files, found, target.user.as_slice(), target.seq);
+            put_line(text, reader, found, reply_of(found_one), call)
+        }
+        None => {
+            let replied = move_by(reader, files, position, call);
+            put_line(text, reader, position, replied, call)
+        }
+    }
 }
 
 /// Prints the text that waits, if it has so many bytes. After an error a prefix of it stands in the sink.
@@ -108,23 +163,92 @@ pub fn print_waiting<O: Sink>(out: &mut O, text: &mut Vec<u8>, least: usize) -> 
 
 /// Prints the line of the answer to each call, in order. After an error a prefix of the text stands in the sink.
 ///
-/// The lines are put in pieces of some tens of kilobytes.
-pub fn print_answers<O: Sink>(
+/// The reader has two seats, which no cursor has. The lines are put in pieces of some tens of kilobytes.
+pub fn print_answers<F: Folder, O: Sink>(
     alloc: Global,
-    reader: &BbtReader,
+    reader: &mut BbtReader,
+    files: &mut F,
     calls: &[Call],
     out: &mut O,
 ) -> Result<(), DevStop>
-    ensures all { OnOk result (O.written out.new ≡ append_known (O.written out.old) (way_text (blocks_of reader.now) calls.now)) }
-    ensures err { OnErr result ((n : ℕ)
-        × (O.written out.new ≡ append_known (O.written out.old) (take n (way_text (blocks_of reader.now) calls.now)))) }
+    requires seats { (seats_of reader.old ≡ 2) × (open_of reader.old ≡ 0) }
+    requires kept { (blocks : List IndexedBlock) × Keeps reader.old blocks }
+    ensures shut { open_of reader.new ≡ 0 }
+    ensures folder { IsQuiet (F.held files.old) (F.held files.new) (F.faults files.old) (F.faults files.new) }
+    ensures all { (blocks : List IndexedBlock) → Keeps reader.old blocks
+        → OnOk result (O.written out.new ≡ append_known (O.written out.old) (way_text blocks calls.now)) }
+    ensures err { (blocks : List IndexedBlock) → Keeps reader.old blocks
+        → OnErr result ((n : ℕ) × (O.written out.new ≡ append_known (O.written out.old) (take n (way_text blocks calls.now)))) }
     ensures faults { CountsFaults (result ≡ Err DevStop.Failed) (O.faults out.old) (O.faults out.new) }
 {
-    let mut position = reader.cursor();
+    match reader.cursor() {
+        Ok(mut position) => {
+            let printed = print_from(alloc, reader, files, &mut position, calls, out);
+            reader.close(position);
+            printed
+        }
+        Err(CursorStop::Full) => unreachable!(),
+        Err(CursorStop::Memory) => Err(DevStop::Memory),
+    }
+}
+
+/// Prints the lines with a cursor for the position, and one more for each Get.
+fn print_from<F: Folder, O: Sink>(
+    alloc: Global,
+    reader: &mut BbtReader,
+    files: &mut F,
+    position: &mut Cursor,
+    calls: &[Call],
+    out: &mut O,
+) -> Result<(), DevStop>
+    requires seats { (seats_of reader.old ≡ 2) × (open_of reader.old ≡ 1) }
+    requires kept { (blocks : List IndexedBlock) × StandsOn reader.old position.old blocks None }
+    ensures belongs { Belongs reader.new position.new }
+    ensures seats { open_of reader.new ≡ 1 }
+    ensures folder { IsQuiet (F.held files.old) (F.held files.new) (F.faults files.old) (F.faults files.new) }
+    ensures all { (blocks : List IndexedBlock) → StandsOn reader.old position.old blocks None
+        → OnOk result (O.written out.new ≡ append_known (O.written out.old) (way_text blocks calls.now)) }
+    ensures err { (blocks : List IndexedBlock) → StandsOn reader.old position.old blocks None
+        → OnErr result ((n : ℕ) × (O.written out.new ≡ append_known (O.written out.old) (take n (way_text blocks calls.now)))) }
+    ensures faults { CountsFaults (result ≡ Err DevStop.Failed) (O.faults out.old) (O.faults out.new) }
+{
+    match reader.cursor() {
+        Ok(mut found) => {
+            let printed = print_lines(alloc, reader, files, position, &mut found, calls, out);
+            reader.close(found);
+            printed
+        }
+        Err(CursorStop::Full) => unreachable!(),
+        Err(CursorStop::Memory) => Err(DevStop::Memory),
+    }
+}
+
+/// Prints the lines by two cursors: one has the position, the other is for each Get.
+fn print_lines<F: Folder, O: Sink>(
+    alloc: Global,
+    reader: &mut BbtReader,
+    files: &mut F,
+    position: &mut Cursor,
+    found: &mut Cursor,
+    calls: &[Call],
+    out: &mut O,
+) -> Result<(), DevStop>
+    requires two { AreTwo position.old found.old }
+    requires kept { (blocks : List IndexedBlock) × StandBoth reader.old position.old found.old blocks }
+    ensures both { (blocks : List IndexedBlock) × StandBoth reader.new position.new found.new blocks }
+    ensures same { IsSame position.old position.new × IsSame found.old found.new }
+    ensures seats { SameSeats reader.old reader.new }
+    ensures folder { IsQuiet (F.held files.old) (F.held files.new) (F.faults files.old) (F.faults files.new) }
+    ensures all { (blocks : List IndexedBlock) → StandsOn reader.old position.old blocks None
+        → OnOk result (O.written out.new ≡ append_known (O.written out.old) (way_text blocks calls.now)) }
+    ensures err { (blocks : List IndexedBlock) → StandsOn reader.old position.old blocks None
+        → OnErr result ((n : ℕ) × (O.written out.new ≡ append_known (O.written out.old) (take n (way_text blocks calls.now)))) }
+    ensures faults { CountsFaults (result ≡ Err DevStop.Failed) (O.faults out.old) (O.faults out.new) }
+{
     let mut text = Vec::new(alloc);
     let mut done = 0;
     while done < calls.len() {
-        put_answer(reader, &mut position, &calls[done], &mut text)?;
+        put_answer(reader, files, position, found, &calls[done], &mut text)?;
         print_waiting(out, &mut text, PIECE)?;
         done += 1;
     }

@@ -1,11 +1,16 @@
-use Rattle.std.proofs.Common.{◌∙◌}
-use Rattle.sst_uses.proofs.Found.{no_damage}
+use Rattle.sst_bbt_read.proofs.Chaining.{tells-opened}
+use Rattle.sst_uses.proofs.Found.{same-damage}
 use Rattle.sst_uses.proofs.reading.all_entries.Goals as goal
 
-pub returns-in_ok-entries-in-Ok-clause-all : goal.returns-in_ok-entries-in-Ok-clause-all
-returns-in_ok-entries-in-Ok-clause-all g c = λ file entries held stands.
-    let table = c.in-Ok.ensures.stands file entries held stands in
-    c.in_ok-entries-in-Ok.ensures ∙ table.are
+pub returns-in-Ok-clause-all : goal.returns-in-Ok-clause-all
+returns-in-Ok-clause-all g c = λ file entries held stands.
+    let told = tells-opened (g.F.Folder.held c.args.files.now) (g.F.Folder.held c.open.new.files) c.in-Ok.table c.args.name.now file c.in-Ok.ensures.folder.same_files c.in-Ok.ensures.name held in
+    c.walked-entries.ensures.all file entries told (c.in-Ok.ensures.told file held).0 stands
+
+pub returns-in-Ok-clause-sound : goal.returns-in-Ok-clause-sound
+returns-in-Ok-clause-sound g c = λ file entries held stands fault is.
+    let told = tells-opened (g.F.Folder.held c.args.files.now) (g.F.Folder.held c.open.new.files) c.in-Ok.table c.args.name.now file c.in-Ok.ensures.folder.same_files c.in-Ok.ensures.name held in
+    c.walked-entries.ensures.sound file entries told (c.in-Ok.ensures.told file held).0 stands fault is
 
 pub returns-in-Err-clause-sound : goal.returns-in-Err-clause-sound
-returns-in-Err-clause-sound g c = λ file entries held stands fault is. no_damage c.in-Err.stop entries fault (c.in-Err.ensures.stands file entries held stands) is
+returns-in-Err-clause-sound g c = λ file entries held stands fault is. c.in-Err.ensures.stands file entries held stands fault (same-damage c.in-Err.stop fault is)

@@ -1,11 +1,13 @@
-use Rattle.std.proofs.Common.{None, Some, sym, ap, ◌∙◌}
-use Rattle.sst_bbt_read.specs.Cursors.{lent}
-use Rattle.sst_uses.proofs.Found.{got}
+use Rattle.std.proofs.Common.{None, refl}
+use Rattle.sst_bbt_read.proofs.Chaining.{tells-on}
 use Rattle.sst_uses.proofs.reading.found.Goals as goal
 
-pub returns-in-None : goal.returns-in-None
-returns-in-None c = λ entries stands. got c.args.table.now entries c.args.user.now c.args.seq _ None stands c.get.ensures.place (ap lent (sym c.in-None.is) ∙ c.entry.ensures.lent)
+pub returns-in-Ok-clause-found : goal.returns-in-Ok-clause-found
+returns-in-Ok-clause-found g c = λ file entries told of stands.
+    let held = g.F.Folder.held c.args.files.now in
+    c.found_by-found.ensures.found file entries None (tells-on held held c.args.table.now c.cursor.new.self file refl c.in-Ok.ensures.name told) (c.in-Ok.ensures.at file entries of stands)
 
-pub returns-in_ok-entry-in-Some : goal.returns-in_ok-entry-in-Some
-returns-in_ok-entry-in-Some c = λ entries stands.
-    ap Some c.in_ok-entry-in-Some.ensures ∙ got c.args.table.now entries c.args.user.now c.args.seq _ _ stands c.get.ensures.place c.in-Some.ensures.lent
+pub returns-in-Ok-clause-sound : goal.returns-in-Ok-clause-sound
+returns-in-Ok-clause-sound g c = λ file entries told of stands fault is.
+    let held = g.F.Folder.held c.args.files.now in
+    c.found_by-found.ensures.sound file entries None (tells-on held held c.args.table.now c.cursor.new.self file refl c.in-Ok.ensures.name told) (c.in-Ok.ensures.at file entries of stands) fault is

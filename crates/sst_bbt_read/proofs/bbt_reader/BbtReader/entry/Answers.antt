@@ -1,10 +1,13 @@
-use Rattle.std.proofs.Common.{subst}
-use Rattle.sst_bbt_read.specs.TableBlocks.{IsOpenTable}
-use Rattle.sst_bbt_read.proofs.JoinedBlocks.{joined-table}
+use Rattle.sst_key.specs.Entry.{entry_of}
+use Rattle.sst_bbt_read.proofs.Moved.{here, shown, shown-at}
 use Rattle.sst_bbt_read.proofs.bbt_reader.BbtReader.entry.Goals as goal
 
-pub returns-in_err-c-clause-joined : goal.returns-in_err-c-clause-joined
-returns-in_err-c-clause-joined c = joined-table c.args.self.now (subst IsOpenTable c.self.view_is c.self.invariant)
+pub returns-clause-on : goal.returns-clause-on
+returns-clause-on c = λ file blocks i opens on.
+    let is = here _ c.args.self.now c.in-Some.place (entry_of c.entry.result) c.self.view_is c.entry.ensures in
+    shown c.args.self.now c.args.c.now blocks i c.in-Some.place (entry_of c.entry.result) c.in-Some.is is (on.of blocks opens) on.stands
 
-pub returns-clause-joined : goal.returns-clause-joined
-returns-clause-joined c = joined-table c.args.self.now (subst IsOpenTable c.self.view_is c.self.invariant)
+pub returns-clause-at : goal.returns-clause-at
+returns-clause-at c = λ file entries i at.
+    let is = here _ c.args.self.now c.in-Some.place (entry_of c.entry.result) c.self.view_is c.entry.ensures in
+    shown-at c.args.self.now c.args.c.now file entries i c.in-Some.place (entry_of c.entry.result) c.in-Some.is is at

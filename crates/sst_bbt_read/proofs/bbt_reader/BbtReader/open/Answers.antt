@@ -1,38 +1,20 @@
-use Rattle.std.proofs.Common.{◌≤◌, Err, length, Option, ap, ◌∙◌, arith}
-use Rattle.sst_device.specs.Folder.{Files, file_of}
-use Rattle.sst_bbt_read.proofs.BlocksOnce.{opens_to}
-use Rattle.sst_bbt_read.proofs.OpenSteps.{stopped, loaded_length, after_load, whole_failed}
+use Rattle.std.proofs.Common.{ap}
+use Rattle.sst_bbt_read.specs.Seats.{OpenReader}
+use Rattle.sst_bbt_read.proofs.OpenedReader.{opens-as, opens-kept, no-damage, none-belongs}
 use Rattle.sst_bbt_read.proofs.bbt_reader.BbtReader.open.Goals as goal
 
-pub returns-in-Err-clause-told : goal.returns-in-Err-clause-told
-returns-in-Err-clause-told g c = λ file told. rw (c.meta_stop.ensures) (stopped c.in-Err.stop file (c.in-Err.ensures.told file told))
-
-pub returns-in-Ok-clause-told : goal.returns-in-Ok-clause-told
-returns-in-Ok-clause-told g c = λ file told.
-    let known = ap (λ (h : Option Files). file_of h c.args.name.now) c.load.ensures.folder.same_files ∙ told in
-    let loaded = c.in-Ok.ensures.told file told in
-    let within : c.end-end.result ≤ length file = omega (arith, c.end-end.ensures, loaded_length file c.in-Ok.loaded loaded) in
-    after_load c.open_index.result c.in-Ok.loaded file c.end-end.result loaded c.end-end.ensures (c.open_index.ensures.told file known within)
-
-pub returns-in-Ok-clause-folder : goal.returns-in-Ok-clause-folder
-returns-in-Ok-clause-folder g c =
-    let loads = c.in-Ok.ensures.folder in
-    let opens = c.open_index.ensures.folder in
-    record {
-      same_files = opens.same_files ∙ loads.same_files;
-      counts = omega (arith, loads.counts, opens.counts);
-      hides_none = grind (arith, loads.hides_none, opens.hides_none);
-      cause = λ failed.
-          whole_failed (g.F.Folder.held c.args.files.now) (g.F.Folder.held c.load.new.files) c.args.name.now c.end-end.result (g.F.Folder.faults c.args.files.now)
-          (g.F.Folder.faults c.load.new.files) (g.F.Folder.faults c.open_index.new.files) loads.same_files loads.counts
-          (λ file told. omega (arith, c.end-end.ensures, loaded_length file c.in-Ok.loaded (c.in-Ok.ensures.told file told)))
-          (opens.cause failed);
-    }
-
-pub returns-in-Ok-clause-stands : goal.returns-in-Ok-clause-stands
-returns-in-Ok-clause-stands g c = λ file entries told stands.
-    opens_to c.open_index.result file entries c.open_index.ensures.table (returns-in-Ok-clause-told g c file told) stands
-
 pub returns-in-Err-clause-stands : goal.returns-in-Err-clause-stands
-returns-in-Err-clause-stands g c = λ file entries told stands.
-    opens_to (Err c.meta_stop.result) file entries tt (returns-in-Err-clause-told g c file told) stands
+returns-in-Err-clause-stands g c = λ file entries told stands fault is. no-damage c.in-Err.stop entries fault (c.in-Err.ensures.stands file entries told stands) is
+
+pub returns-in_ok-reader-in-Ok-clause-told : goal.returns-in_ok-reader-in-Ok-clause-told
+returns-in_ok-reader-in-Ok-clause-told g c = λ file told.
+    opens-as c.in_ok-reader-in-Ok.reader c.in-Ok.table file (ap (λ (r : OpenReader). r.table) c.in_ok-reader-in-Ok.ensures) c.in-Ok.ensures.table (c.in-Ok.ensures.told file told)
+
+pub returns-in_ok-reader-in-Ok-clause-none : goal.returns-in_ok-reader-in-Ok-clause-none
+returns-in_ok-reader-in-Ok-clause-none g c = λ d belongs.
+    none-belongs c.in_ok-reader-in-Ok.reader c.args.seats d (ap (λ (r : OpenReader). r.seats) c.in_ok-reader-in-Ok.ensures) belongs
+
+pub returns-in_ok-reader-in-Ok-clause-kept : goal.returns-in_ok-reader-in-Ok-clause-kept
+returns-in_ok-reader-in-Ok-clause-kept g c =
+    opens-kept c.in_ok-reader-in-Ok.reader c.in-Ok.table (g.F.Folder.held c.args.files.now) c.args.name.now (ap (λ (r : OpenReader). r.table) c.in_ok-reader-in-Ok.ensures)
+    c.in-Ok.ensures.table c.in-Ok.ensures.told

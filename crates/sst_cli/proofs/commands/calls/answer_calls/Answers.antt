@@ -1,6 +1,4 @@
-use Rattle.std.proofs.Common.{refl, sym}
-use Rattle.sst_bbt_read.specs.TableBlocks.{blocks_of}
-use Rattle.sst_bbt_read.proofs.JoinedBlocks.{table-seqs}
+use Rattle.std.proofs.Common.{refl, ◌∙◌}
 use Rattle.sst_num.specs.declared.stops.Stop.TheVariants as stop
 use Rattle.sst_cli.specs.CallsCommand.{answers_of}
 use Rattle.sst_cli.specs.OpenFile.{Damaged, Opened, on_file}
@@ -11,10 +9,14 @@ use Rattle.sst_cli.proofs.commands.calls.answer_calls.Goals as goal
 
 pub returns-in-Ok : goal.returns-in-Ok
 returns-in-Ok g c = λ left intake.
-    let is = file_opens (g.F.Folder.held c.args.files.now) c.args.name.now c.open.result c.in-Ok.reader c.in-Ok.is (rw (sym c.reader.view_is) c.reader.invariant) c.open.ensures.absent c.in-Ok.ensures.told in
+    let kept = c.in-Ok.ensures.kept in
+    let held = g.F.Folder.held c.args.files.now in
+    let is = file_opens held c.args.name.now c.open.result c.in-Ok.reader kept.0 c.in-Ok.is c.open.ensures.absent kept.2 in
     let quiet = with_ok c.open.result c.in-Ok.reader stop.Device _ c.in-Ok.is c.open.ensures.folder.hides_none in
-    carries-printed (on_file c.args.name.now (answers_of c.args.calls.now)) (Opened (blocks_of c.in-Ok.reader)) _ _ c.print_all.result _ _ (table-seqs c.in-Ok.reader (rw (sym c.reader.view_is) c.reader.invariant), is)
-    (c.open.ensures.folder.same_files, refl) c.open.ensures.folder.same_files (λ none. absurd none) (λ spared. tt) quiet refl c.print_all.ensures
+    let after = c.print_all.ensures.folder in
+    let same = after.0 ∙ c.open.ensures.folder.same_files in
+    carries-printed (on_file c.args.name.now (answers_of c.args.calls.now)) (Opened kept.0) _ _ c.print_all.result _ _ (kept.1.1, is)
+    (same, refl) same (λ none. absurd none) (λ spared. tt) (after.1 ∙ quiet) refl (c.print_all.ensures.printed kept.0 kept.1)
 
 pub returns-in-Err-Damage : goal.returns-in-Err-Damage
 returns-in-Err-Damage g c = λ left intake.
