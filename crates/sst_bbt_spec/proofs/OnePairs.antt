@@ -4,8 +4,8 @@ use Rattle.std.proofs.lemmas.List.Elements.{All-head}
 use Rattle.sst_num.specs.Spelling.{handle_spelling}
 use Rattle.sst_num.specs.declared.block_handle.Handle.{Handle}
 use Rattle.sst_block.specs.declared.row_form.RowForm.TheVariants.{Index}
-use Rattle.sst_block.specs.Block.{Row, Spelled, IsRow}
-use Rattle.sst_block.specs.IndexRows.{IndexPair, SayPairs, IndexRows, no_handle}
+use Rattle.sst_block.specs.Block.{Row, Spelled, IsRow, no_handle}
+use Rattle.sst_block.specs.IndexRows.{IndexPair, SayPairs, IndexRows}
 use Rattle.sst_block.proofs.OneReading.{one-pairs}
 use Rattle.sst_bbt_spec.proofs.HandlesOnce.{handle-once}
 
