@@ -56,7 +56,7 @@ some-is (Some x) is = (x, refl)
 last-eight : (user : List ℕ) (t : ℕ) → drop (length (user ++ fixed 8 t) - 8) (user ++ fixed 8 t) ≡ fixed 8 t
 last-eight user t = ap (λ (n : ℕ). drop n (user ++ fixed 8 t)) (user_length user t) ∙ drop-front user (fixed 8 t)
 
-length-key : (user : List ℕ) (t : ℕ) → 8 ≤ length (user ++ fixed 8 t)
+pub length-key : (user : List ℕ) (t : ℕ) → 8 ≤ length (user ++ fixed 8 t)
 length-key user t = omega (arith, length-append user (fixed 8 t), length-fixed 8 t)
 
 parts-are : (key : List ℕ) (kind : Kind) → 8 ≤ length key → kind_numbered (kind_byte key) ≡ Some kind

@@ -175,8 +175,10 @@ impl BlockBuilder {
     }
 }
 
-/// How many bytes two keys have in common at their fronts.
-fn common_front(a: &[u8], b: &[u8]) -> usize
+/// How many bytes two keys have in common at their fronts. Takes no memory.
+///
+/// RocksDB: `BlockBuilder::AddWithLastKeyImpl` in table/block_based/block_builder.cc.
+pub fn common_front(a: &[u8], b: &[u8]) -> usize
     ensures { result ≡ common a.now b.now }
 {
     let end = a.len().min(b.len());
