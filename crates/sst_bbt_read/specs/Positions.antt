@@ -63,6 +63,7 @@ is_placed c = is_some c.place
 
 -- how many entries there are from a place on
 -- Own.
+-- Pinned by: next.lowers
 abbrev pub left_from : List Entry → Option ℕ → ℕ
 left_from entries None = 0
 left_from entries (Some i) = length entries - i

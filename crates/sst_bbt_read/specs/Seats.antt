@@ -25,5 +25,6 @@ open_of r = count_by (λ (taken : Bool). taken) r.seats
 
 -- as many seats as before, and as many that a cursor has
 -- Own.
+-- Pinned by: next.reader
 abbrev pub SameSeats : OpenReader → OpenReader → Type 0
 SameSeats old new = (seats_of new ≡ seats_of old) × (open_of new ≡ open_of old)

@@ -40,6 +40,7 @@ abbrev pub reply_text : Reply → Option Entry → Call → List ℕ
 reply_text said shown call = reply_line said shown call ++ 10 ∷ []
 
 -- both cursors stand somewhere on the blocks
+-- Pinned by: put_answer.both
 abbrev pub StandBoth : OpenReader → Cursor → Cursor → List IndexedBlock → Type 0
 StandBoth r c d blocks = ((place : Option ℕ) × StandsOn r c blocks place) × ((place : Option ℕ) × StandsOn r d blocks place)
 

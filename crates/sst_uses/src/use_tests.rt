@@ -1,5 +1,6 @@
 //! Each use called once: a table of two entries is written into memory, opened, asked and walked, by one cursor and by two.
 ghost use Rattle.std.specs.Prelude.{◌≡◌, IfOk};
+ghost use Rattle.sst_bbt_read.specs.Seats.{seats_of, open_of};
 
 use crate::{all_entries, ends, look_up, write_table};
 use sst_bbt_read::{BbtReader, CursorStop};
@@ -103,30 +104,43 @@ fn a_table_shows_both_ends(rt: HostRuntime) -> Result<(), Fail> {
     Ok(())
 }
 
-/// A reader with one seat refuses a second cursor, and opens one again once the first is closed.
+/// Whether a second cursor is refused, because each seat has one.
+fn is_full(table: &mut BbtReader) -> bool
+    requires { open_of table.old ≡ seats_of table.old }
+    ensures { table.new ≡ table.old }
+{
+    match table.cursor() {
+        Ok(_second) => unreachable!(),
+        Err(CursorStop::Full) => true,
+        Err(CursorStop::Memory) => false,
+    }
+}
+
+/// Whether a cursor is opened, and takes the one seat until it is closed.
+fn takes_the_seat(table: &mut BbtReader) -> bool
+    requires { (seats_of table.old ≡ 1) × (open_of table.old ≡ 0) }
+    ensures { (seats_of table.new ≡ 1) × (open_of table.new ≡ 0) }
+{
+    match table.cursor() {
+        Ok(first) => {
+            let full = is_full(table);
+            table.close(first);
+            full
+        }
+        Err(_) => false,
+    }
+}
+
 #[test]
 fn a_seat_is_given_again(rt: HostRuntime) -> Result<(), Fail> {
     let mut folder = folder(rt.alloc())?;
     match BbtReader::open(rt.alloc(), &mut folder, NAME, 1, 0) {
         Ok(mut table) => {
-            match table.cursor() {
-                Ok(first) => {
-                    match table.cursor() {
-                        Ok(second) => {
-                            assert!(rt; false);
-                            table.close(second);
-                        }
-                        Err(stop) => assert_eq!(rt; stop, CursorStop::Full),
-                    }
-                    table.close(first);
-                }
-                Err(_) => assert!(rt; false),
-            }
-            match table.cursor() {
-                Ok(again) => table.close(again),
-                Err(_) => assert!(rt; false),
-            }
+            let once = takes_the_seat(&mut table);
+            let again = takes_the_seat(&mut table);
             table.shut();
+            assert!(rt; once);
+            assert!(rt; again);
         }
         Err(_) => assert!(rt; false),
     }

@@ -9,10 +9,10 @@ pub returns-clause-of : goal.returns-clause-of
 returns-clause-of c = λ file of. still-of _ c.args.self.now c.args.c.number false file c.self.view_is of
 
 pub returns-clause-others : goal.returns-clause-others
-returns-clause-others c = λ d two belongs. still-belongs _ c.args.self.now c.args.c.number false d c.self.view_is two belongs
+returns-clause-others c = λ d two belongs. still-belongs _ c.args.self.now c.args.c.number _ d c.self.view_is two belongs
 
 pub returns-clause-others_on : goal.returns-clause-others_on
-returns-clause-others_on c = λ d file place two on. still-on _ c.args.self.now c.args.c.number false d file place c.self.view_is two on
+returns-clause-others_on c = λ d file place two on. still-on _ c.args.self.now c.args.c.number _ d file place c.self.view_is two on
 
 pub returns-clause-others_at : goal.returns-clause-others_at
-returns-clause-others_at c = λ d file entries place two at. still-at _ c.args.self.now c.args.c.number false d file entries place c.self.view_is two at
+returns-clause-others_at c = λ d file entries place two at. still-at _ c.args.self.now c.args.c.number _ d file entries place c.self.view_is two at
