@@ -20,7 +20,7 @@ use Rattle.sst_index.specs.declared.builder.IndexBuilder.{IndexBuilder}
 use Rattle.sst_index.specs.declared.builder.IndexRow.{IndexRow}
 use Rattle.sst_index.specs.declared.flags.IndexFlags.{IndexFlags}
 use Rattle.sst_index.specs.Separators.{separator_of, separator_between}
-use Rattle.sst_index.specs.Ends.{BlockEnd, IsAfter, begins_with, IsEnd, AreFollowed, Follows, shares_user, stored_separator, separator_in, pair_of, pairs_of, flags_of, end_weight}
+use Rattle.sst_index.specs.Ends.{BlockEnd, AreEnds, IsAfter, begins_with, IsEnd, AreFollowed, Follows, shares_user, stored_separator, separator_in, pair_of, pairs_of, flags_of, end_weight}
 use Rattle.sst_index.specs.Index.{Holds, IsReady, IsKept, Rise, kept_pair, kept_pairs, rows_from, pair_room}
 use Rattle.sst_index.specs.IndexBytes.{IndexOptions, whole_bytes, whole_handle, index_bytes, top_handle, top_separators}
 use Rattle.sst_index.specs.Top.{IsPair}
@@ -192,8 +192,24 @@ short-room u [] light = omega arith
 short-room u (e ∷ ends) light = omega (arith, pairs-room u (e ∷ ends), light)
 
 -- a version below 4 has whole handles
-whole-below : (version : ℕ) → version ≤ 3 → nat_le 4 version ≡ false
+pub whole-below : (version : ℕ) → version ≤ 3 → nat_le 4 version ≡ false
 whole-below version most = grind (arith, nat_tests)
+
+-- pairs that may stand in index blocks
+pub record Standing (u : Bool) (pairs : List IndexPair) : Type 0 where
+  pub each : All (IsPair u) pairs
+  pub rise : Rise u pairs
+  pub room : sum_by pair_room pairs + 8 < block_limit
+
+pub pairs-stand : (version : ℕ) (ends : List BlockEnd) → AreEnds ends → Standing (flags_of version ends).user_key (pairs_of version ends)
+pairs-stand version ends stand =
+    let u = (flags_of version ends).user_key in
+    record {
+      each = are_pairs u ends stand.each;
+      rise = rise-from_next u (map (pair_of u) ends)
+          (are_next u ends stand.each (apart-all u ends (flag-none (nat_le 3 version) (list_any shares_user ends))) stand.followed);
+      room = short-room u ends stand.light;
+    }
 
 pub ready : (b : IndexBuilder) (o : IndexOptions) (ends : List BlockEnd) → Holds b o ends → IsReady b (flags_of o.version ends)
 ready b o ends holds =

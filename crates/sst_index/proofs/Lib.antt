@@ -8,3 +8,5 @@ pub mod Parts
 pub mod PartsPut
 pub mod Kept
 pub mod TopKeys
+pub mod Fronts
+pub mod Says

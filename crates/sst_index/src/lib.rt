@@ -85,6 +85,9 @@ mod writing;
 
 pub use builder::IndexBuilder;
 pub use flags::IndexFlags;
-pub use laws::{a_separator_ends, a_separator_separates, an_index_block_says_its_pairs};
+pub use laws::{
+    a_separator_ends, a_separator_separates, an_index_block_says_its_pairs,
+    an_index_says_its_pairs, partitions_are_the_pairs,
+};
 pub use separators::put_separator;
 pub use top::TopBuilder;
