@@ -42,7 +42,7 @@ blocks_read-opens file blocks o =
     let index = o.loaded.footer.index in
     let limited = o.meta.limited in
     let at : RowsAt (Index false false) file end index o.index_rows = record { bytes = o.index_block; framed = o.framed; block = o.index_is } in
-    let rows = block_at-rows bbt.Frame (bbt.Block index) (Index false false) file end index o.index_rows tt at in
+    let rows = block_at-rows bbt.Frame (bbt.Block index) (Index false false) file end index o.index_rows at in
     ap (λ r. then_open (as_fault bbt.Meta r) (opened_read file)) (load-complete file o.loaded o.meta)
     ∙ ap (λ r. then_open r (runs_read file end)) rows
     ∙ runs_read-lead file end o.index_rows blocks (omega arith) o.lead
@@ -80,7 +80,7 @@ blocks_read-found file read e =
     let index = loaded.footer.index in
     then_open-ok (block_at bbt.Frame (bbt.Block index) (Index false false) file end index) (runs_read file end) read e
     (λ index_rows found last.
-    let at = block_at-found bbt.Frame (bbt.Block index) (Index false false) file end index index_rows tt found in
+    let at = block_at-found bbt.Frame (bbt.Block index) (Index false false) file end index index_rows found in
     let runs = runs_read-found file end index_rows read at.block.forms last in (
       runs.blocks,
       record {

@@ -122,7 +122,7 @@ index_rows-pass : (file : List ℕ) (end : ℕ) (metaindex h : Handle) (rows : L
 index_rows-pass file end metaindex h rows leads at = λ another fails.
     let same = leads-once file end metaindex h fails.0 fails.1 fails.2 leads fails.3 in
     let w = fails.4 in
-    block-right (Index false false) file end h fails.0 fails.2 rows w.1 w.0 tt same.0 same.2 at w.3 w.4
+    block-right (Index false false) file end h fails.0 fails.2 rows w.1 w.0 same.0 same.2 at w.3 w.4
 
 data_frame-passes : (file : List ℕ) (end n : ℕ) (h : Handle) (block : List ℕ) → LeadsAt file end n h → Framed file end h block → Passes file (data_frame n)
 data_frame-passes file end n h block leads framed = λ another fails.
@@ -133,7 +133,7 @@ data_rows-pass : (file : List ℕ) (end n : ℕ) (h : Handle) (rows : List Row) 
 data_rows-pass file end n h rows leads at = λ another fails.
     let same = led-same file n end h fails.0 fails.1 leads fails.2 in
     let w = fails.3 in
-    block-right Entries file end h fails.0 fails.1 rows w.1 w.0 tt same.0 same.1 at w.3 w.4
+    block-right Entries file end h fails.0 fails.1 rows w.1 w.0 same.0 same.1 at w.3 w.4
 
 data_some-passes : (file : List ℕ) (end n : ℕ) (h : Handle) (row : Row) (rows : List Row) → LeadsAt file end n h → RowsAt Entries file end h (row ∷ rows)
     → Passes file (data_some n)
@@ -165,18 +165,18 @@ rows-clear file end n h (row ∷ rest) read leads clear at e =
 block-first : (file : List ℕ) (end n : ℕ) (h : Handle) (fault : BbtFault) → LeadsAt file end n h → Clear file (n + 2) → data_read file end h ≡ Err fault → First file fault
 block-first file end n h fault leads clear e =
     then_open-err (block_at bbt.Frame (bbt.Block h) Entries file end h) (with_rows h) fault e
-    (λ first. block_at-fault bbt.Frame (bbt.Block h) Entries file end h fault tt first
+    (λ first. block_at-fault bbt.Frame (bbt.Block h) Entries file end h fault first
     (λ f is same. (data_frame n, record { fails = (end, h, leads, (f, sym same, is)); first = to_frame file n clear }))
     (λ block framed f is same.
     let frame = data_frame-passes file end n h block leads framed in
     (data_rows n, record { fails = (end, h, leads, (f, block, sym same, framed, is)); first = to_rows file n clear frame })))
-    (λ rows found last. empty-first file end n h rows fault leads clear (block_at-found bbt.Frame (bbt.Block h) Entries file end h rows tt found) last)
+    (λ rows found last. empty-first file end n h rows fault leads clear (block_at-found bbt.Frame (bbt.Block h) Entries file end h rows found) last)
 
 -- after a data block that is read the next part comes
 block-clear : (file : List ℕ) (end n : ℕ) (h : Handle) (read : List Row) → LeadsAt file end n h → Clear file (n + 2) → data_read file end h ≡ Ok read → Clear file (suc n + 2)
 block-clear file end n h read leads clear e =
     then_open-ok (block_at bbt.Frame (bbt.Block h) Entries file end h) (with_rows h) read e
-    (λ rows found last. rows-clear file end n h rows read leads clear (block_at-found bbt.Frame (bbt.Block h) Entries file end h rows tt found) last)
+    (λ rows found last. rows-clear file end n h rows read leads clear (block_at-found bbt.Frame (bbt.Block h) Entries file end h rows found) last)
 
 -- a fault of the data blocks that the rows of the index lead to, from a number on
 runs-first : (file : List ℕ) (end : ℕ) (all rows : List Row) (n : ℕ) (fault : BbtFault) → HasIndex file end all → ((i : ℕ) → slice_get all (n + i) ≡ slice_get rows i)
@@ -242,13 +242,13 @@ open-first file fault bytes e =
     let metaindex = loaded.footer.meta in
     let h = loaded.footer.index in
     then_open-err (block_at bbt.Frame (bbt.Block h) (Index false false) file end h) (runs_read file end) fault e
-    (λ first. block_at-fault bbt.Frame (bbt.Block h) (Index false false) file end h fault tt first
+    (λ first. block_at-fault bbt.Frame (bbt.Block h) (Index false false) file end h fault first
     (λ f is same. (index_frame, record { fails = (end, metaindex, h, leads, (f, sym same, is)); first = to_index file clear }))
     (λ block framed f is same.
     let frame = index_frame-passes file end metaindex h block leads framed in
     (index_rows, record { fails = (end, metaindex, h, leads, (f, block, sym same, framed, is)); first = to_index_rows file clear frame })))
     (λ rows read last.
-    let at = block_at-found bbt.Frame (bbt.Block h) (Index false false) file end h rows tt read in
+    let at = block_at-found bbt.Frame (bbt.Block h) (Index false false) file end h rows read in
     let has : HasIndex file end rows = record { metaindex = metaindex; index = h; leads = leads; block = at.bytes; framed = at.framed; rows = at.block } in
     let frame = index_frame-passes file end metaindex h at.bytes leads at.framed in
     let next = after_index file clear frame (index_rows-pass file end metaindex h rows leads at) in

@@ -7,7 +7,6 @@ use Rattle.sst_block.specs.declared.row_form.RowForm.{RowForm}
 use Rattle.sst_block.specs.declared.row_form.RowForm.TheVariants.{Entries, Names, Index}
 use Rattle.sst_block.specs.declared.fault.BlockFault.{BlockFault}
 use Rattle.sst_block.specs.Block.{Row}
-use Rattle.sst_block.specs.Builder.{HasNoFlags}
 use Rattle.sst_device.specs.declared.frame.FrameFault.{FrameFault}
 use Rattle.sst_meta.specs.FooterReading.{last_bytes}
 use Rattle.sst_meta.proofs.BlocksRead.{RowsAt, rows-once, no-frame_fault, no-block_fault}
@@ -26,15 +25,14 @@ use Rattle.sst_bbt_read.proofs.Reached.{index-at, data-at}
 
 -- the rows of the block at a handle that is reached
 record ReachedRows (form : RowForm) (file : List ℕ) (end : ℕ) (h : Handle) : Type 0 where
-  plain : HasNoFlags form
   rows : List Row
   at : RowsAt form file end h rows
 
 -- at each of them a block stands
 reached : (form : RowForm) (file : List ℕ) (blocks : List IndexedBlock) (end : ℕ) (h : Handle) → Opens file blocks → IsReached file end form h → ReachedRows form file end h
 reached Names file blocks end h o is = absurd is
-reached Entries file blocks end h o is = let there = data-at file blocks end h o is in record { plain = tt; rows = rows_of there.entries; at = there.at }
-reached (Index false false) file blocks end h o is = record { plain = tt; rows = o.index_rows; at = (index-at file blocks end is.0 h o is.1).1 }
+reached Entries file blocks end h o is = let there = data-at file blocks end h o is in record { rows = rows_of there.entries; at = there.at }
+reached (Index false false) file blocks end h o is = record { rows = o.index_rows; at = (index-at file blocks end is.0 h o is.1).1 }
 reached (Index false true) file blocks end h o is = absurd (cc (is.3))
 reached (Index true delta) file blocks end h o is = absurd (cc (is.2))
 
@@ -46,7 +44,7 @@ no-frame form file blocks fault o shows =
 no-block : (form : RowForm) (file : List ℕ) (blocks : List IndexedBlock) (h : Handle) (fault : BlockFault) → Opens file blocks → ShowsBlock file form h fault → ⊥
 no-block form file blocks h fault o shows =
     let r = reached form file blocks shows.0 h o shows.2 in
-    no-block_fault form file shows.0 h r.rows shows.1 fault r.plain r.at shows.3 shows.4
+    no-block_fault form file shows.0 h r.rows shows.1 fault r.at shows.3 shows.4
 
 -- a list with an entry has a row
 no-entries : (entries : List Entry) → rows_of entries ≡ [] → 0 < length entries → ⊥

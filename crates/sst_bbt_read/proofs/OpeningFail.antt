@@ -7,7 +7,6 @@ use Rattle.sst_num.specs.declared.block_handle.Handle.{Handle}
 use Rattle.sst_block.specs.declared.row_form.RowForm.{RowForm}
 use Rattle.sst_block.specs.declared.row_form.RowForm.TheVariants.{Entries, Index}
 use Rattle.sst_block.specs.Block.{Row}
-use Rattle.sst_block.specs.Builder.{HasNoFlags}
 use Rattle.sst_meta.specs.FooterReading.{last_bytes}
 use Rattle.sst_meta.proofs.BlocksRead.{RowsAt, rows-once}
 use Rattle.sst_meta.proofs.SaidOnce.{leads-once}
@@ -93,11 +92,11 @@ frame-once : (file : List ℕ) (end : ℕ) (h : Handle) (last : ℕ) (k : Handle
 frame-once file end h last k a b ends handles left right =
     left.1 ∙ ap bbt.Frame (frame-same file end h last k left.0 right.0 ends handles left.2 right.2) ∙ sym right.1
 
-block-once : (form : RowForm) (file : List ℕ) (end : ℕ) (h : Handle) (last : ℕ) (k : Handle) (a b : BbtFault) → HasNoFlags form → end ≡ last → h ≡ k
+block-once : (form : RowForm) (file : List ℕ) (end : ℕ) (h : Handle) (last : ℕ) (k : Handle) (a b : BbtFault) → end ≡ last → h ≡ k
     → IsBlockWrong form file end h a → IsBlockWrong form file last k b → a ≡ b
-block-once form file end h last k a b plain ends handles left right =
+block-once form file end h last k a b ends handles left right =
     left.2 ∙ ap (λ (x : Handle). bbt.Block x left.0) handles
-    ∙ ap (bbt.Block k) (block-same form file end h last k left.1 right.1 left.0 right.0 plain ends handles left.3 right.3 left.4 right.4) ∙ sym right.2
+    ∙ ap (bbt.Block k) (block-same form file end h last k left.1 right.1 left.0 right.0 ends handles left.3 right.3 left.4 right.4) ∙ sym right.2
 
 pub fails-once : (file : List ℕ) (step : OpenStep) (a b : BbtFault) → IsBytes (last_bytes 53 file) → OpeningFailsAt file step a → OpeningFailsAt file step b → a ≡ b
 fails-once file (loading step) a b bytes left right =
@@ -107,13 +106,13 @@ fails-once file index_frame a b bytes left right =
     frame-once file left.0 left.2 right.0 right.2 a b same.0 same.2 left.4 right.4
 fails-once file index_rows a b bytes left right =
     let same = leads-once file left.0 left.1 left.2 right.0 right.1 right.2 left.3 right.3 in
-    block-once (Index false false) file left.0 left.2 right.0 right.2 a b tt same.0 same.2 left.4 right.4
+    block-once (Index false false) file left.0 left.2 right.0 right.2 a b same.0 same.2 left.4 right.4
 fails-once file (data_frame i) a b bytes left right =
     let same = led-same file i left.0 left.1 right.0 right.1 left.2 right.2 in
     frame-once file left.0 left.1 right.0 right.1 a b same.0 same.1 left.3 right.3
 fails-once file (data_rows i) a b bytes left right =
     let same = led-same file i left.0 left.1 right.0 right.1 left.2 right.2 in
-    block-once Entries file left.0 left.1 right.0 right.1 a b tt same.0 same.1 left.3 right.3
+    block-once Entries file left.0 left.1 right.0 right.1 a b same.0 same.1 left.3 right.3
 fails-once file (data_some i) a b bytes left right =
     let same = led-same file i left.0 left.1 right.0 right.1 left.2 right.2 in
     let w = left.3 in

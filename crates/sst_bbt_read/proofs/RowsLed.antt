@@ -43,7 +43,7 @@ led_read-leads file end row entries short leads =
     let h = leads.handle in
     let fits = handle-fits file end h leads.block short leads.framed in
     let at : RowsAt Entries file end h (rows_of entries) = record { bytes = leads.block; framed = leads.framed; block = leads.rows } in
-    let rows = block_at-rows bbt.Frame (bbt.Block h) Entries file end h (rows_of entries) tt at in
+    let rows = block_at-rows bbt.Frame (bbt.Block h) Entries file end h (rows_of entries) at in
     let whole : data_read file end h ≡ Ok (rows_of entries) = ap (λ r. then_open r (with_rows h)) rows ∙ with_rows-some h entries leads.some in
     let read : data_read file end (handle_in_row row) ≡ Ok (rows_of entries) = ap (data_read file end) (handle_in_row-is row h fits.0 fits.1 leads.value) ∙ whole in
     ap (λ (r : Result (List Row) BbtFault). then_open r (λ rows. Ok (led_block row rows))) read
@@ -85,7 +85,7 @@ led_read-found file end row read is e =
     then_open-ok (block_at bbt.Frame (bbt.Block h) Entries file end h) (with_rows h) rows whole
     (λ inner found passed.
     let parts = with_rows-ok h inner rows passed in
-    let at = block_at-found bbt.Frame (bbt.Block h) Entries file end h inner tt found in
+    let at = block_at-found bbt.Frame (bbt.Block h) Entries file end h inner found in
     let made = entries-of_rows inner at.block.forms in
     let block : led_block row rows ≡ read = cc in
     record {

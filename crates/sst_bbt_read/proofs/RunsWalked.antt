@@ -51,7 +51,7 @@ stands index count walk rows n is more walks = walks-at walk rows n (omega (arit
 pub value-handle : (index : List ℕ) (rows : List Row) (n : ℕ) (value : List ℕ) → length index ≤ 2 ^ 29 → Reads (Index false false) index rows → ValueAt rows n value
     → IsHandle value
 value-handle index rows n value short reads (row, at, same) =
-    let block = read-sound (Index false false) index rows tt short reads in
+    let block = read-sound (Index false false) index rows short reads in
     let within = slice_get_within rows n row at in
     let form : IsRow (Index false false) row =
     subst (λ (r : Row). IsRow (Index false false) r) (get_or_from_slice_get rows n row row at) (All-get_or (IsRow (Index false false)) rows n row within block.forms) in
@@ -62,7 +62,7 @@ pub table_walked : (index : List ℕ) (count : ℕ) (rows : List Row) (n : ℕ) 
     → RowsIn index count rows → count ≤ n → separators_of ends ≡ keys_of (take n rows) → AreEnds 0 ends (length entries)
     → All (λ (b : IndexedBlock). AreEntries b.entries) (blocks_from 0 ends entries) → IsOpenTable (record { ends = ends; entries = entries })
 table_walked index count rows n ends entries short is all keys are blocks =
-    let block = read-sound (Index false false) index rows tt short is.0 in
+    let block = read-sound (Index false false) index rows short is.0 in
     let whole : separators_of ends ≡ keys_of rows = keys ∙ ap keys_of (take_all n rows (omega (arith, is.1, all))) in
     record {
       ends = are;

@@ -76,20 +76,21 @@ All-last P (first ∷ rest) e all = All-last P rest e (All-tail P first (rest ++
 
 -- a data block takes the row of an entry with which the list is written
 pub data_takes : (b : BlockBuilder) (entries : List Entry) (e : Entry) (key value : List ℕ) → Holds b Entries 16 (rows_of entries)
-    → Fits (entries ++ e ∷ []) → key ≡ key_of e → value ≡ e.value → CanAdd b (record { key = key; value = value })
+    → Fits (entries ++ e ∷ []) → key ≡ key_of e → value ≡ e.value → CanAdd b (record { key = key; value = value }) []
 data_takes b entries e key value holds fits key_is value_is =
     let rows = rows_of-append entries e in
-    let takes : CanAdd b (row_of e) = inr (record {
+    let takes : CanAdd b (row_of e) [] = inr (record {
       form = Entries;
       interval = 16;
       rows = rows_of entries;
       holds = holds;
       has_form = row_of-is_row e (All-last IsInLimits entries e fits.limits);
+      given = tt;
       ordered = subst (λ (r : List Row). AreOrdered Entries r) rows (rows_of-ordered (entries ++ e ∷ []) fits.limits fits.ordered);
       short = subst (λ (r : List Row). length (block_of Entries 16 r) < 2 ^ 29) rows (rows_of-short (entries ++ e ∷ []) fits.light);
     }) in
-    subst (λ (k : List ℕ). CanAdd b (record { key = k; value = value })) (sym key_is)
-    (subst (λ (v : List ℕ). CanAdd b (record { key = key_of e; value = v })) (sym value_is) takes)
+    subst (λ (k : List ℕ). CanAdd b (record { key = k; value = value }) []) (sym key_is)
+    (subst (λ (v : List ℕ). CanAdd b (record { key = key_of e; value = v }) []) (sym value_is) takes)
 
 -- the data block then holds the rows of the longer list
 pub data-more : (b : BlockBuilder) (entries : List Entry) (e : Entry) (key : List ℕ) → key ≡ key_of e

@@ -30,7 +30,7 @@ indexed block = record { separator = last_key [] (rows_of block); entries = bloc
 -- a data block stands for its entries
 data_block-is : (entries : List Entry) → Fits entries → Block Entries (data_block entries) (rows_of entries)
 data_block-is entries fits =
-    block_of_is_block Entries 16 (rows_of entries) (omega arith) (rows_of-forms entries fits.limits) (rows_of-ordered entries fits.limits fits.ordered) (data_block-short entries fits)
+    block_of_is_block Entries 16 (rows_of entries) (omega arith) (rows_of-forms entries fits.limits) (rows_of-ordered entries fits.limits fits.ordered) tt (data_block-short entries fits)
 
 -- the index row of a block that stands in a file leads to it
 row-leads : (file front rest : List ℕ) (at end : ℕ) (block : List Entry) → 0 < length block → Fits block → file ≡ front ++ (frame_of (data_block block) ++ rest)

@@ -8,7 +8,7 @@ use Rattle.sst_block.specs.declared.row_form.RowForm.{RowForm}
 use Rattle.sst_block.specs.declared.row_form.RowForm.TheVariants.{Entries, Index}
 use Rattle.sst_block.specs.declared.builder.BlockBuilder.{BlockBuilder}
 use Rattle.sst_block.specs.Block.{Row, IsRow, AreOrdered}
-use Rattle.sst_block.specs.Builder.{Holds, CanAdd, row_room, last_key}
+use Rattle.sst_block.specs.Builder.{Holds, CanAdd, row_room, last_key, row_put}
 use Rattle.sst_block.proofs.Size.{can_add}
 use Rattle.sst_device.specs.Framed.{frame_of}
 use Rattle.sst_bbt_spec.specs.Rows.{rows_of}
@@ -93,11 +93,11 @@ row-is w cut entries bytes key value size kept some key_is value_is long =
 -- the index takes it
 pub index_takes : (w : BbtWriter) (cut : Blocks) (entries : List Entry) (bytes key value : List ℕ) (size : ℕ) → Keeps w cut entries bytes → 0 < w.rows
     → key ≡ w.last.items → value ≡ handle_spelling (record { offset = w.data_size; size = size }) → size ≡ length (data_block cut.current)
-    → CanAdd w.index (record { key = key; value = value })
+    → CanAdd w.index (record { key = key; value = value }) []
 index_takes w cut entries bytes key value size kept some key_is value_is long =
     let end = kept-end w cut entries bytes kept some in
-    subst (λ (row : Row). CanAdd w.index row) (sym (row-is w cut entries bytes key value size kept some key_is value_is long))
-    (can_add w.index (Index false false) 1 (index_rows 0 cut.ended) (index_row (length (data_part cut.ended)) cut.current) kept.index end.form end.ordered end.room)
+    subst (λ (row : Row). CanAdd w.index row []) (sym (row-is w cut entries bytes key value size kept some key_is value_is long))
+    (can_add w.index (Index false false) 1 (index_rows 0 cut.ended) (index_row (length (data_part cut.ended)) cut.current) [] refl kept.index end.form end.ordered end.room)
 
 -- the lengths fit their numbers
 pub record HasSpace (w : BbtWriter) (size : ℕ) : Type 0 where
@@ -119,7 +119,7 @@ end-space w cut entries bytes size kept some long =
 pub ended_keeps : (w : BbtWriter) (cut : Blocks) (entries : List Entry) (bytes : List ℕ) (next index : BlockBuilder) (block key value : List ℕ) (size : ℕ)
     → Keeps w cut entries bytes → 0 < w.rows → Holds next Entries 16 [] → block ≡ data_block cut.current → size ≡ length block
     → key ≡ w.last.items → value ≡ handle_spelling (record { offset = w.data_size; size = size })
-    → ((form : RowForm) (interval : ℕ) (rows : List Row) → Holds w.index form interval rows → Holds index form interval (rows ++ record { key = key; value = value } ∷ []))
+    → ((form : RowForm) (interval : ℕ) (rows : List Row) → Holds w.index form interval rows → Holds index form interval (rows ++ row_put form interval rows (record { key = key; value = value }) [] ∷ []))
     → Keeps (record {
       alloc = w.alloc;
       options = w.options;

@@ -61,5 +61,5 @@ pub index_block-is : (blocks : List (List Entry)) → HaveEntries blocks → Fit
 index_block-is blocks some fits =
     block_of_is_block (Index false false) 1 (index_rows 0 blocks) (omega arith)
     (index_rows-forms 0 blocks some fits (omega (arith, data_part-le blocks (filled blocks some), fits.light)))
-    (index-ordered 0 blocks (filled blocks some) fits.ordered fits.limits)
+    (index-ordered 0 blocks (filled blocks some) fits.ordered fits.limits) tt
     (omega (arith, index_block-short blocks some fits))

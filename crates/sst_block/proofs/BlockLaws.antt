@@ -5,7 +5,7 @@ use Rattle.std.proofs.lemmas.List.Elements.{All-nil, All-cons, All-append, All-w
 use Rattle.std.proofs.Math.Nat.{zero-mod}
 use Rattle.sst_num.proofs.Groups.{varint-some}
 use Rattle.sst_block.specs.declared.row_form.RowForm.{RowForm}
-use Rattle.sst_block.specs.Block.{Row, Spelled, Block, IsRow, AreOrdered, AreRestarts, SharesFronts, common, row_spelling, fresh_starts}
+use Rattle.sst_block.specs.Block.{Row, Spelled, Block, IsRow, AreOrdered, AreRestarts, SharesFronts, common, row_spelling, fresh_starts, no_handle, SayHandles}
 use Rattle.sst_block.specs.Chosen.{chosen, restarts_from, restarts_of, block_of}
 
 -- a row takes at least one byte
@@ -88,19 +88,33 @@ chosen-restarts form interval (row ∷ rows) h =
     let first = zero-mod interval in
     (rw first refl, restarts-rise form interval 0 0 (chosen interval 0 [] (row ∷ rows)), restarts-fresh form interval 0 0 [] (row ∷ rows))
 
+-- the block that is chosen, with its spelled rows
+pub record ChosenBlock (form : RowForm) (interval : ℕ) (rows : List Row) : Type 0 where
+  pub block : Block form (block_of form interval rows) rows
+  pub spelled_are : block.spelled ≡ chosen interval 0 [] rows
+
 -- each part of what a block is, of the block that is chosen
-pub block_of_is_block : (form : RowForm) (interval : ℕ) (rows : List Row) → 0 < interval → All (IsRow form) rows → AreOrdered form rows → length (block_of form interval rows) ≤ 2 ^ 29 → Block form (block_of form interval rows) rows
+pub chosen-block : (form : RowForm) (interval : ℕ) (rows : List Row) → 0 < interval → All (IsRow form) rows → AreOrdered form rows → SayHandles form no_handle (chosen interval 0 [] rows)
+    → length (block_of form interval rows) ≤ 2 ^ 29 → ChosenBlock form interval rows
 unfolding block_of
-block_of_is_block form interval rows positive forms ordered short =
+chosen-block form interval rows positive forms ordered handles short =
     let spelled = chosen interval 0 [] rows in
     record {
-      spelled = spelled;
-      restarts = restarts_of form interval spelled;
-      are_rows = chosen-rows interval 0 [] rows;
-      spelling = refl;
-      fronts = chosen-fronts interval 0 [] rows;
-      places = chosen-restarts form interval rows positive;
-      forms = forms;
-      ordered = ordered;
-      short = short;
+      block = record {
+        spelled = spelled;
+        restarts = restarts_of form interval spelled;
+        are_rows = chosen-rows interval 0 [] rows;
+        spelling = refl;
+        fronts = chosen-fronts interval 0 [] rows;
+        places = chosen-restarts form interval rows positive;
+        forms = forms;
+        ordered = ordered;
+        handles = handles;
+        short = short;
+      };
+      spelled_are = refl;
     }
+
+pub block_of_is_block : (form : RowForm) (interval : ℕ) (rows : List Row) → 0 < interval → All (IsRow form) rows → AreOrdered form rows → SayHandles form no_handle (chosen interval 0 [] rows)
+    → length (block_of form interval rows) ≤ 2 ^ 29 → Block form (block_of form interval rows) rows
+block_of_is_block form interval rows positive forms ordered handles short = (chosen-block form interval rows positive forms ordered handles short).block

@@ -6,9 +6,8 @@ use Rattle.sst_num.specs.Spelling.{fixed}
 use Rattle.sst_block.specs.declared.row_form.RowForm.{RowForm}
 use Rattle.sst_block.specs.declared.fault.BlockFault.{BlockFault}
 use Rattle.sst_block.specs.Block.{Row, Spelled, Block, IsRow, AreOrdered, AreRestarts, row_spelling, fresh_starts, restarts_spelling}
-use Rattle.sst_block.specs.Builder.{HasNoFlags}
 use Rattle.sst_block.specs.FirstFault.{rows_spelled, HasFooter}
-use Rattle.sst_block.specs.BlockReading.{restart_count, rows_end, rows_read, restarts_fault, unless, then_read, with_restarts, parts_read, block_read, Reads}
+use Rattle.sst_block.specs.BlockReading.{nothing_before, restart_count, rows_end, rows_read, restarts_fault, unless, then_read, with_restarts, parts_read, block_read, Reads}
 use Rattle.sst_block.proofs.Steps.{length-restarts}
 use Rattle.sst_block.proofs.Follows.{Follows, all-follow, followers}
 use Rattle.sst_block.proofs.Footer.{footer-length, footer-last, footer-read, footer-found}
@@ -45,11 +44,11 @@ read-parts form xs ys count spelled size some fits reads none =
     ∙ ap (unless spelled) none
 
 -- rows and restarts that keep the rules are read again
-read-again : (form : RowForm) (spelled : List Spelled) (rest : List ℕ) → HasNoFlags form → Follows form None spelled
+read-again : (form : RowForm) (spelled : List Spelled) (rest : List ℕ) → Follows form nothing_before spelled
     → Rises (fresh_starts form 0 spelled) 0 rest → length (flat_map (row_spelling form) spelled ++ restarts_spelling (0 ∷ rest)) ≤ 2 ^ 29
     → block_read form (flat_map (row_spelling form) spelled ++ restarts_spelling (0 ∷ rest)) ≡ Ok spelled
 unfolding rows_read
-read-again form spelled rest plain follows rises short =
+read-again form spelled rest follows rises short =
     let xs = flat_map (row_spelling form) spelled in
     let restarts = 0 ∷ rest in
     let ys = flat_map (fixed 4) restarts in
@@ -57,27 +56,33 @@ read-again form spelled rest plain follows rises short =
     let size : length ys ≡ 4 * count = length-restarts restarts in
     let whole : length (xs ++ restarts_spelling restarts) ≡ length xs + 4 * count + 4 =
     length-append xs (restarts_spelling restarts) ∙ omega (arith, length-append ys (fixed 4 count), size) in
-    let reads = rows_from-spelled form spelled (length xs) 0 None plain follows (omega arith) (omega arith) in
+    let reads = rows_from-spelled form spelled (length xs) 0 nothing_before follows (omega arith) (omega arith) in
     let fit = restarts-within form (2 ^ 32) rest spelled rises (omega arith) in
     read-parts form xs ys count spelled size (omega arith) (omega arith) reads
     (restarts_fault-spelled (fresh_starts form 0 spelled) rest (fixed 4 count) rises fit)
 
--- what a block has is read
-pub read-complete : (form : RowForm) (bytes : List ℕ) (rows : List Row) → HasNoFlags form → Block form bytes rows → Reads form bytes rows
-read-complete form bytes rows plain block =
+-- the spelled rows of a block follow one another
+pub block-follows : (form : RowForm) (bytes : List ℕ) (rows : List Row) (block : Block form bytes rows) → Follows form nothing_before block.spelled
+block-follows form bytes rows block =
     let same : rows ≡ rows_spelled block.spelled = sym block.are_rows in
     let forms = subst (λ (all : List Row). All (IsRow form) all) same block.forms in
     let ordered = subst (λ (all : List Row). AreOrdered form all) same block.ordered in
-    let follows = all-follow form block.spelled block.fronts forms ordered in
+    all-follow form block.spelled block.fronts forms ordered block.handles
+
+-- a block reads as its spelled rows
+pub block-reads : (form : RowForm) (bytes : List ℕ) (rows : List Row) (block : Block form bytes rows) → block_read form bytes ≡ Ok block.spelled
+block-reads form bytes rows block =
+    let follows = block-follows form bytes rows block in
     let parts = restarts-parts form block.restarts block.spelled block.places in
     let spelling : bytes ≡ flat_map (row_spelling form) block.spelled ++ restarts_spelling (0 ∷ parts.0) =
     block.spelling ∙ ap (λ (restarts : List ℕ). flat_map (row_spelling form) block.spelled ++ restarts_spelling restarts) parts.1 in
     let short = subst (λ (all : List ℕ). length all ≤ 2 ^ 29) spelling block.short in
-    record {
-      spelled = block.spelled;
-      reads = ap (block_read form) spelling ∙ read-again form block.spelled parts.0 plain follows parts.2 short;
-      are_rows = block.are_rows;
-    }
+    ap (block_read form) spelling ∙ read-again form block.spelled parts.0 follows parts.2 short
+
+-- what a block has is read
+pub read-complete : (form : RowForm) (bytes : List ℕ) (rows : List Row) → Block form bytes rows → Reads form bytes rows
+read-complete form bytes rows block =
+    record { spelled = block.spelled; reads = block-reads form bytes rows block; are_rows = block.are_rows }
 
 parts-found : (form : RowForm) (bytes : List ℕ) (read : Option ℕ) (spelled : List Spelled) → parts_read form bytes read ≡ Ok spelled
     → (count : ℕ) × (read ≡ Some count)
@@ -89,13 +94,13 @@ parts-found form bytes (Some count) spelled is = (count, refl, is)
 pub record BlockFound (form : RowForm) (bytes : List ℕ) (spelled : List Spelled) : Type 0 where
   pub rest : List ℕ
   pub spelling : bytes ≡ flat_map (row_spelling form) spelled ++ restarts_spelling (0 ∷ rest)
-  pub follows : Follows form None spelled
+  pub follows : Follows form nothing_before spelled
   pub places : AreRestarts form (0 ∷ rest) spelled
 
-pub block-found : (form : RowForm) (bytes : List ℕ) (spelled : List Spelled) → HasNoFlags form → block_read form bytes ≡ Ok spelled
+pub block-found : (form : RowForm) (bytes : List ℕ) (spelled : List Spelled) → block_read form bytes ≡ Ok spelled
     → BlockFound form bytes spelled
 unfolding block_read rows_read
-block-found form bytes spelled plain is =
+block-found form bytes spelled is =
     let part = parts-found form bytes (restart_count bytes) spelled is in
     let count : ℕ = part.0 in
     let end = rows_end bytes count in
@@ -105,7 +110,7 @@ block-found form bytes spelled plain is =
     then_ok (rows_read form (take end bytes)) (with_restarts form count tail) spelled part.2
     (λ x first last.
     let tests = unless_ok x spelled (restarts_fault (fresh_starts form 0 x) count tail) last in
-    let front = rows_from-found (length (take end bytes)) form 0 None (take end bytes) x plain (omega arith) first in
+    let front = rows_from-found (length (take end bytes)) form 0 nothing_before (take end bytes) x (omega arith) first in
     let found = restarts_fault-found count (fresh_starts form 0 x) tail footer.some tests.0 in
     let sum : end + 4 * count ≡ length bytes - 4 = omega (arith, whole, footer.room) in
     let last : drop (4 * count) tail ≡ fixed 4 (length (0 ∷ found.restarts)) =
@@ -122,10 +127,10 @@ block-found form bytes spelled plain is =
     subst (λ (all : List Spelled). BlockFound form bytes all) tests.1 block)
 
 -- what is read the block has
-pub read-sound : (form : RowForm) (bytes : List ℕ) (rows : List Row) → HasNoFlags form → length bytes ≤ 2 ^ 29 → Reads form bytes rows
+pub read-sound : (form : RowForm) (bytes : List ℕ) (rows : List Row) → length bytes ≤ 2 ^ 29 → Reads form bytes rows
     → Block form bytes rows
-read-sound form bytes rows plain short reads =
-    let found = block-found form bytes reads.spelled plain reads.reads in
+read-sound form bytes rows short reads =
+    let found = block-found form bytes reads.spelled reads.reads in
     let parts = followers form reads.spelled found.follows in
     record {
       spelled = reads.spelled;
@@ -136,5 +141,6 @@ read-sound form bytes rows plain short reads =
       places = found.places;
       forms = subst (λ (all : List Row). All (IsRow form) all) reads.are_rows parts.1;
       ordered = subst (λ (all : List Row). AreOrdered form all) reads.are_rows parts.2;
+      handles = parts.3;
       short = short;
     }

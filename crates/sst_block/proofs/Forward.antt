@@ -62,7 +62,7 @@ behind-at it form bytes rows b i w = ap length w.is_at.2.after
 
 -- one row more
 pub comes-more : (began old new : BlockIter) (told : Bool) (left : ℕ) → ComesTo began old left → left < length old.after.now → StaysIn old new
-    → Moves new told old.key old.after.now → ComesTo began new left
+    → Moves new told old.form old.handle old.key old.after.now → ComesTo began new left
 comes-more began old new told left comes more stays moves = λ form bytes rows b i j w order within leaves.
     let here = comes form bytes rows b i j w order within leaves in
     let m : ℕ = here.0 in
@@ -86,7 +86,7 @@ comes-end began it left comes done form bytes rows b i j w order within leaves =
 
 -- fewer bytes are left after each step
 pub comes-shorter : (began old new : BlockIter) (told : Bool) (left : ℕ) → Reaches began left → ComesTo began old left → left < length old.after.now → StaysIn old new
-    → Moves new told old.key old.after.now → length new.after.now < length old.after.now
+    → Moves new told old.form old.handle old.key old.after.now → length new.after.now < length old.after.now
 comes-shorter began old new told left r comes more stays moves =
     let here = comes r.form r.bytes r.rows r.block r.i r.j r.walks r.order r.within r.leaves in
     let m : ℕ = here.0 in

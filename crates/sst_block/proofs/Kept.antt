@@ -1,17 +1,17 @@
 -- What a builder keeps of its rows, from one call to the next.
-use Rattle.std.proofs.Common.{◌≡◌, ◌≢◌, inl, inr, ℕ, ◌+◌, ◌*◌, ◌%◌, ◌==◌, ◌<◌, ◌≤◌, if◌then◌else◌, List, [], ◌∷◌, ◌++◌, length, length-append, refl, sym, ap, ◌∙◌, append_assoc, arith}
+use Rattle.std.proofs.Common.{◌≡◌, ◌≢◌, ℕ, ◌+◌, ◌*◌, ◌%◌, ◌==◌, ◌<◌, ◌≤◌, if◌then◌else◌, List, [], ◌∷◌, ◌++◌, length, length-append, refl, sym, ap, ◌∙◌, append_assoc, arith}
 use Rattle.std.specs.List.{flat_map}
-use Rattle.std.proofs.lemmas.Bool.{cases_lt, eq-eqb, ne_eqb}
+use Rattle.std.proofs.lemmas.Bool.{eq-eqb, ne_eqb}
 use Rattle.std.proofs.lemmas.List.{append-nil}
 use Rattle.std.proofs.lemmas.Nat.{mod-mul-add}
 use Rattle.std.proofs.Math.Nat.{zero-mod, mul-mod_left}
 use Rattle.sst_num.specs.Spelling.{fixed}
 use Rattle.sst_num.proofs.Fixed.{length-fixed}
 use Rattle.sst_block.specs.declared.row_form.RowForm.{RowForm}
-use Rattle.sst_block.specs.Block.{Row, Spelled, common, row_spelling, key_cmp, AreOrdered}
+use Rattle.sst_block.specs.Block.{Row, Spelled, common, row_spelling}
 use Rattle.sst_block.specs.Chosen.{restarts_of, block_of}
 use Rattle.sst_block.specs.Builder.{last_key, spelled_of, Counts, Keeps, IsReady}
-use Rattle.sst_block.proofs.Steps.{length-chosen, length-more, last_key-more, chosen-more, restarts_of-first, restarts_of-full, restarts_of-within, rows_spelling-more, restarts_spelling-more, ordered-more, ordered-last}
+use Rattle.sst_block.proofs.Steps.{length-chosen, length-more, last_key-more, chosen-more, restarts_of-first, restarts_of-full, restarts_of-within, rows_spelling-more, restarts_spelling-more}
 
 -- what is kept of no rows
 pub Keeps-none : (form : RowForm) (interval : ℕ) → Keeps form interval [] [] (fixed 4 0) [] 1 0
@@ -95,6 +95,7 @@ IsReady-room form interval [] bytes restarts last count since k room =
     let same = λ (row : Row). sym (ap (restarts_of form interval) (spelled-as interval [] row (common last row.key) (e row)) ∙ restarts_of-first form interval (record { shared = common last row.key; row = row })) in
     record {
       bytes_are = k.bytes_are;
+      shares = λ key. e (record { key = key; value = [] });
       spelled_are = λ row. spelled-as interval [] row (common last row.key) (e row);
       restarts_are = λ row. k.restarts_are ∙ ap (λ (places : List ℕ). flat_map (fixed 4) places) (same row);
       count_is = λ row. k.count_is ∙ ap (λ (places : List ℕ). length places) (same row);
@@ -111,6 +112,7 @@ IsReady-room form interval (r ∷ rows) bytes restarts last count since k room =
     ∙ restarts_of-within form interval (spelled_of interval (r ∷ rows)) (record { shared = common last row.key; row = row }) (omega (arith, size)) still) in
     record {
       bytes_are = k.bytes_are;
+      shares = λ key. e (record { key = key; value = [] });
       spelled_are = λ row. spelled-as interval (r ∷ rows) row (common last row.key) (e row);
       restarts_are = λ row. k.restarts_are ∙ ap (λ (places : List ℕ). flat_map (fixed 4) places) (same row);
       count_is = λ row. k.count_is ∙ ap (λ (places : List ℕ). length places) (same row);
@@ -136,6 +138,7 @@ IsReady-full form interval rows bytes restarts last count since least k full =
     ∙ ap (λ (n : ℕ). restarts_of form interval (spelled_of interval rows) ++ n ∷ []) place in
     record {
       bytes_are = k.bytes_are;
+      shares = λ key. e (record { key = key; value = [] });
       spelled_are = λ row. spelled-as interval rows row 0 (e row);
       restarts_are = λ row. ap (λ (l : List ℕ). l ++ fixed 4 (length bytes)) k.restarts_are
           ∙ sym (restarts_spelling-more (restarts_of form interval (spelled_of interval rows)) (length bytes))
@@ -178,28 +181,3 @@ pub Keeps-put : (form : RowForm) (interval : ℕ) (rows : List Row) (bytes resta
     → Keeps form interval (rows ++ row ∷ []) put restarts kept count (since + 1)
 Keeps-put form interval rows bytes restarts last put kept count since shared row k front is same =
     rw (is, same, front) (Keeps-more form interval rows bytes restarts last count since row k)
-
--- rows that leave a builder alike make the same block with one more row
-pub same_block : (form : RowForm) (interval : ℕ) (rows others : List Row) (bytes restarts last : List ℕ) (count since : ℕ) (row : Row) → 1 ≤ interval
-    → Keeps form interval rows bytes restarts last count since → Keeps form interval others bytes restarts last count since
-    → block_of form interval (rows ++ row ∷ []) ≡ block_of form interval (others ++ row ∷ [])
-same_block form interval rows others bytes restarts last count since row least k l =
-    elim (cases_lt since interval) [
-      | inl room ↦
-          block_of-kept form interval _ _ _ _ _ _ (Keeps-more form interval rows bytes restarts last count since row (IsReady-room form interval rows bytes restarts last count since k room))
-          ∙ sym (block_of-kept form interval _ _ _ _ _ _ (Keeps-more form interval others bytes restarts last count since row (IsReady-room form interval others bytes restarts last count since l room)))
-      | inr full ↦
-          block_of-kept form interval _ _ _ _ _ _ (Keeps-more form interval rows bytes (restarts ++ fixed 4 (length bytes)) [] (count + 1) 0 row (IsReady-full form interval rows bytes restarts last count since least k full))
-          ∙ sym (block_of-kept form interval _ _ _ _ _ _ (Keeps-more form interval others bytes (restarts ++ fixed 4 (length bytes)) [] (count + 1) 0 row (IsReady-full form interval others bytes restarts last count since least l full)))
-    ]
-
--- and their orders go on alike
-pub same_order : (form : RowForm) (interval : ℕ) (rows others : List Row) (bytes restarts last : List ℕ) (count since : ℕ) (row : Row) → 1 ≤ interval
-    → Keeps form interval rows bytes restarts last count since → Keeps form interval others bytes restarts last count since
-    → AreOrdered form rows → AreOrdered form (others ++ row ∷ []) → AreOrdered form (rows ++ row ∷ [])
-same_order form interval [] others bytes restarts last count since row least k l sorted more = tt
-same_order form interval (a ∷ rows) [] bytes restarts last count since row least k l sorted more =
-    absurd (omega (arith, k.begun (omega arith), none_since form interval bytes restarts last count since least l))
-same_order form interval (a ∷ rows) (b ∷ others) bytes restarts last count since row least k l sorted more =
-    let same : last_key b.key others ≡ last_key a.key rows = sym l.last_is ∙ k.last_is in
-    ordered-more form a rows row sorted (ap (λ (key : List ℕ). key_cmp form key row.key) (sym same) ∙ ordered-last form b others row more)

@@ -8,9 +8,11 @@ use Rattle.std.proofs.lemmas.List.Elements.{All-get_or}
 use Rattle.std.proofs.lemmas.Grind.{flat_map-append}
 use Rattle.std.proofs.lemmas.Option.{slice_get-map, slice_get_within, get_or_from_slice_get}
 use Rattle.std.specs.Option.{option_map}
+use Rattle.sst_num.specs.declared.block_handle.Handle.{Handle}
 use Rattle.sst_block.specs.declared.row_form.RowForm.{RowForm}
-use Rattle.sst_block.specs.Block.{Row, Spelled, Block, IsRow, SharesFronts, SpellsLengths, row_spelling}
-use Rattle.sst_block.specs.BlockReading.{row_at}
+use Rattle.sst_block.specs.Block.{Row, Spelled, Block, IsRow, SharesFronts, row_spelling, no_handle, LeadsTo, LeadTo}
+use Rattle.sst_block.specs.BlockReading.{row_at, handle_after}
+use Rattle.sst_block.proofs.Said.{leads-after}
 use Rattle.sst_block.proofs.RowAt.{row_at-spelled, row_at-found, value-within}
 use Rattle.sst_block.proofs.Halves.{split-block}
 
@@ -75,22 +77,29 @@ fronts-behind (x ∷ spelled) before (suc i) s fronts at =
     let next : suc i + 1 ≡ suc (i + 1) = omega arith in
     rw next (fronts-behind spelled x.row.key i s fronts.1 at)
 
--- the rows from the i-th on come next, and the first of them shares no more than the key before
-pub record Awaits (form : RowForm) (spelled : List Spelled) (i : ℕ) (key left : List ℕ) : Type 0 where
+-- the i-th row leads on from the handle that is held
+abbrev pub LeadsOn : RowForm → List Spelled → ℕ → Handle → Type 0
+LeadsOn form spelled i handle =
+    (s : Spelled) → slice_get spelled i ≡ Some s → (h : Handle) × LeadsTo form handle s h × LeadTo form no_handle (take (i + 1) spelled) h
+
+-- the rows from the i-th on come next, and the first of them shares no more than the key before, and leads on
+pub record Awaits (form : RowForm) (spelled : List Spelled) (i : ℕ) (handle : Handle) (key left : List ℕ) : Type 0 where
   pub after : left ≡ flat_map (row_spelling form) (drop i spelled)
   pub fronts : SharesFronts key (drop i spelled)
+  pub leads : LeadsOn form spelled i handle
 
 -- the i-th row is read
-pub record NextRow (form : RowForm) (spelled : List Spelled) (i : ℕ) (key after : List ℕ) : Type 0 where
+pub record NextRow (form : RowForm) (spelled : List Spelled) (i : ℕ) (handle : Handle) (key after : List ℕ) : Type 0 where
   pub s : Spelled
   pub at : slice_get spelled i ≡ Some s
-  pub reads : row_at key after ≡ Some (s, length (row_spelling form s))
+  pub reads : row_at form handle key after ≡ Some (s, length (row_spelling form s))
+  pub holds : LeadTo form no_handle (take (i + 1) spelled) (handle_after form handle s.shared s.row.value)
   pub here : after ≡ flat_map (row_spelling form) (s ∷ drop (i + 1) spelled)
   pub rest : drop (length (row_spelling form s)) after ≡ flat_map (row_spelling form) (drop (i + 1) spelled)
 
-pub next-row : (form : RowForm) (bytes : List ℕ) (rows : List Row) (b : Block form bytes rows) (i : ℕ) (key after : List ℕ) → SpellsLengths form
-    → i < length b.spelled → Awaits form b.spelled i key after → NextRow form b.spelled i key after
-next-row form bytes rows b i key after spells within a =
+pub next-row : (form : RowForm) (bytes : List ℕ) (rows : List Row) (b : Block form bytes rows) (i : ℕ) (handle : Handle) (key after : List ℕ)
+    → i < length b.spelled → Awaits form b.spelled i handle key after → NextRow form b.spelled i handle key after
+next-row form bytes rows b i handle key after within a =
     let found = nth b.spelled i within in
     let s = found.0 in
     let more = drop (i + 1) b.spelled in
@@ -98,6 +107,7 @@ next-row form bytes rows b i key after spells within a =
     let fronts = subst (λ (l : List Spelled). SharesFronts key l) found.2 a.fronts in
     let here : after ≡ row_spelling form s ++ others = a.after ∙ ap (flat_map (row_spelling form)) found.2 in
     let sound = row-sound form bytes rows b i s found.1 in
+    let leads = a.leads s found.1 in
     let left = rows-left form b.spelled i in
     let size : length (flat_map (row_spelling form) (drop i b.spelled)) ≡ length (row_spelling form s) + length others =
     ap length (ap (flat_map (row_spelling form)) found.2) ∙ length-append (row_spelling form s) others in
@@ -105,23 +115,24 @@ next-row form bytes rows b i key after spells within a =
     record {
       s = s;
       at = found.1;
-      reads = ap (row_at key) here ∙ row_at-spelled form key others s spells fronts.0 sound.0 fits;
+      reads = ap (row_at form handle key) here ∙ row_at-spelled form handle leads.0 key others s leads.1 fronts.0 sound.0 fits;
+      holds = subst (λ (h : Handle). LeadTo form no_handle (take (i + 1) b.spelled) h) (sym (leads-after form handle s leads.0 leads.1)) leads.2;
       here = here;
       rest = ap (drop (length (row_spelling form s))) here ∙ drop-append_seam (row_spelling form s) others;
     }
 
 -- no bytes are no row
-no-row : (form : RowForm) (key : List ℕ) → SpellsLengths form → row_at key [] ≡ None
-no-row form key spells =
-    elim (row_at key []) as (λ r. row_at key [] ≡ r → row_at key [] ≡ None) [
+no-row : (form : RowForm) (handle : Handle) (key : List ℕ) → row_at form handle key [] ≡ None
+no-row form handle key =
+    elim (row_at form handle key []) as (λ r. row_at form handle key [] ≡ r → row_at form handle key [] ≡ None) [
       | None ↦ λ is. is
       | Some read ↦ λ is.
-          let stands = row_at-found form key [] read.0 read.1 spells is in
+          let stands = row_at-found form handle key [] read.0 read.1 is in
           let size = ap length stands.joined ∙ length-append (row_spelling form read.0) (drop read.1 []) in
           absurd (omega (arith, size, stands.takes, stands.some))
     ] refl
 
-pub none-next : (form : RowForm) (spelled : List Spelled) (i : ℕ) (key after : List ℕ) → SpellsLengths form → length spelled ≤ i → Awaits form spelled i key after
-    → row_at key after ≡ None
-none-next form spelled i key after spells past a =
-    ap (row_at key) (a.after ∙ ap (flat_map (row_spelling form)) (drop_all i spelled past)) ∙ no-row form key spells
+pub none-next : (form : RowForm) (spelled : List Spelled) (i : ℕ) (handle : Handle) (key after : List ℕ) → length spelled ≤ i → Awaits form spelled i handle key after
+    → row_at form handle key after ≡ None
+none-next form spelled i handle key after past a =
+    ap (row_at form handle key) (a.after ∙ ap (flat_map (row_spelling form)) (drop_all i spelled past)) ∙ no-row form handle key

@@ -12,12 +12,12 @@ use Rattle.sst_num.proofs.Fixed.{length-fixed}
 use Rattle.sst_num.proofs.FixedAt.{fixed_at-fixed}
 use Rattle.sst_block.specs.declared.row_form.RowForm.{RowForm}
 use Rattle.sst_block.specs.declared.iter.BlockIter.{BlockIter}
-use Rattle.sst_block.specs.Block.{Row, Spelled, Block, SharesFronts, AreRestarts, row_spelling, fresh_starts}
+use Rattle.sst_block.specs.Block.{Row, Spelled, Block, SharesFronts, AreRestarts, row_spelling, fresh_starts, no_handle}
 use Rattle.sst_block.specs.Iter.{WalksIn, StaysIn, start_of, restart_at, place_of}
 use Rattle.sst_block.proofs.Steps.{length-restarts}
 use Rattle.sst_block.proofs.NextRow.{Awaits, rows-joined, rows-left, rows-short, length-rows}
 use Rattle.sst_block.proofs.Halves.{restarts-some}
-use Rattle.sst_block.proofs.Walking.{Moves, step-place}
+use Rattle.sst_block.proofs.Walking.{Moves, step-place, fresh-on}
 
 -- the i-th number of those that stand one after the other
 pub restart-read : (restarts : List ℕ) (tail : List ℕ) (i r : ℕ) → slice_get restarts i ≡ Some r → r < 2 ^ 32 → restart_at (flat_map (fixed 4) restarts ++ tail) i ≡ Some r
@@ -86,12 +86,13 @@ restart-row form (s ∷ rest) restarts i are fronts within =
 
 -- where the k-th row begins the rows from it on come next
 pub awaits-at : (it : BlockIter) (form : RowForm) (bytes : List ℕ) (rows : List Row) (b : Block form bytes rows) (place : Option ℕ) (k : ℕ) → WalksIn it form bytes rows b place
-    → SharesFronts [] (drop k b.spelled) → Awaits form b.spelled k [] (drop (start_of form b.spelled k) it.rows.now)
+    → SharesFronts [] (drop k b.spelled) → Awaits form b.spelled k no_handle [] (drop (start_of form b.spelled k) it.rows.now)
 awaits-at it form bytes rows b place k w fronts =
     record {
       after = ap (drop (start_of form b.spelled k)) (w.rows_are ∙ rows-joined form b.spelled k)
           ∙ drop-append_seam (flat_map (row_spelling form) (take k b.spelled)) (flat_map (row_spelling form) (drop k b.spelled));
       fronts = fronts;
+      leads = fresh-on form bytes rows b k fronts;
     }
 
 -- what is read as a restart
@@ -135,18 +136,18 @@ some-told k n (inr within) = lt-ltb k n within ∙ sym (lt-ltb 0 n (omega (arith
 -- a move to a restart
 pub restart-in : (old new : BlockIter) (told : Bool) (form : RowForm) (bytes : List ℕ) (rows : List Row) (b : Block form bytes rows) (place : Option ℕ) (i start : ℕ)
     → WalksIn old form bytes rows b place → StaysIn old new → i < length b.restarts → restart_at old.places.now i ≡ Some start
-    → Moves new told [] (drop start old.rows.now)
-    → ((k : ℕ) × (slice_get b.restarts i ≡ Some (start_of form b.spelled k)) × WalksIn new form bytes rows b (place_of rows k) × (told ≡ nat_lt k (length rows)))
+    → Moves new told old.form no_handle [] (drop start old.rows.now)
+    → ((k : ℕ) × (slice_get b.restarts i ≡ Some (start_of form b.spelled k)) × WalksIn new form bytes rows b (place_of rows k) × (told ≡ nat_lt k (length rows)) × ((k ≡ 0) ⊎ (k < length rows)))
     × (told ≡ nat_lt 0 (length rows))
 restart-in old new told form bytes rows b place i start w stays within read m =
     let found = restart-found old form bytes rows b place i w within in
     let row = found.row in
     let same : start_of form b.spelled row.k ≡ start = same_Some _ _ (sym found.reads ∙ read) in
-    let next = subst (λ (n : ℕ). Awaits form b.spelled row.k [] (drop n old.rows.now)) same (awaits-at old form bytes rows b place row.k w row.fronts) in
-    let moved = step-place old new told form bytes rows b place row.k [] (drop start old.rows.now) w stays next m in
+    let next = subst (λ (n : ℕ). Awaits form b.spelled row.k no_handle [] (drop n old.rows.now)) same (awaits-at old form bytes rows b place row.k w row.fronts) in
+    let moved = step-place old new told form bytes rows b place row.k no_handle [] (drop start old.rows.now) w stays next m in
     let many = length-rows form bytes rows b in
     let first : (row.k ≡ 0) ⊎ (row.k < length rows) = subst (λ (n : ℕ). (row.k ≡ 0) ⊎ (row.k < n)) (sym many) row.first in
-    ((row.k, row.at, moved.0, moved.1), moved.1 ∙ some-told row.k (length rows) first)
+    ((row.k, row.at, moved.0, moved.1, first), moved.1 ∙ some-told row.k (length rows) first)
 
 -- the last restart is one
 pub last_restart : (it : BlockIter) (form : RowForm) (bytes : List ℕ) (rows : List Row) (b : Block form bytes rows) (place : Option ℕ) → WalksIn it form bytes rows b place

@@ -1,15 +1,14 @@
 -- What reading asks of a row's key and value is what the form of the block says of them.
-use Rattle.std.proofs.Common.{not, ◌&&◌, ◌≡◌, ℕ, ◌+◌, ◌-◌, ◌/◌, ◌%◌, ◌^◌, ◌<◌, ◌≤◌, nat_lt, ◌==◌, if◌then◌else◌, Bool, true, false, List, [], ◌++◌, length, length-append, length-drop, take, drop, append-nil, Option, Some, None, inl, inr, refl, sym, subst, ap, ◌∙◌, arith}
+use Rattle.std.proofs.Common.{not, ◌&&◌, ◌≡◌, ℕ, ◌-◌, ◌/◌, ◌%◌, ◌^◌, ◌<◌, ◌≤◌, nat_lt, ◌==◌, if◌then◌else◌, Bool, true, false, List, [], ◌++◌, length, length-append, length-drop, take, drop, append-nil, Option, Some, None, inl, inr, refl, sym, subst, ap, ◌∙◌, arith}
 use Rattle.std.specs.Option.{option_map, is_some}
-use Rattle.std.proofs.lemmas.Bool.{cases_lt, lt-ltb, le-ltb, ltb-false, eqb-true, eq-eqb, and_parts, and_from}
-use Rattle.std.proofs.lemmas.List.{take-append-drop, take_all, nil_from_length}
+use Rattle.std.proofs.lemmas.Bool.{cases_lt, lt-ltb, le-ltb, ltb-false, eqb-true, and_parts, and_from}
+use Rattle.std.proofs.lemmas.List.{take-append-drop, take_all}
 use Rattle.std.proofs.lemmas.Option.{same_Some}
-use Rattle.sst_num.specs.Spelling.{fixed, fixed_value, handle_spelling}
-use Rattle.sst_num.specs.NumberReading.{fixed_at, handle_at}
+use Rattle.sst_num.specs.Spelling.{fixed, fixed_value}
+use Rattle.sst_num.specs.NumberReading.{fixed_at}
 use Rattle.sst_num.specs.declared.block_handle.Handle.{Handle}
 use Rattle.sst_num.proofs.Fixed.{length-fixed}
 use Rattle.sst_num.proofs.FixedAt.{fixed_at-fixed, fixed_at-found, fixed_at-value}
-use Rattle.sst_num.proofs.NumberReading.{handle_at-handle, handle_at-found}
 use Rattle.sst_key.specs.declared.entries.Kind.{Kind}
 use Rattle.sst_key.specs.declared.entries.Kind.TheVariants.{Deletion, Value, Merge, SingleDeletion}
 use Rattle.sst_key.specs.Entry.{kind_number, tag, internal_key}
@@ -19,9 +18,9 @@ use Rattle.sst_block.specs.declared.row_form.RowForm.{RowForm}
 use Rattle.sst_block.specs.declared.row_form.RowForm.TheVariants.{Entries, Names, Index}
 use Rattle.sst_block.specs.declared.fault.BlockFault.{BlockFault}
 use Rattle.sst_block.specs.declared.fault.BlockFault.TheVariants.{BadRow, Disorder, BadKind, BadHandle}
-use Rattle.sst_block.specs.Block.{Row, IsInternalKey, IsHandle, HasForm}
-use Rattle.sst_block.specs.Builder.{HasNoFlags}
-use Rattle.sst_block.specs.BlockReading.{is_internal_key, is_whole, is_handle, is_after, or_fault, row_fault}
+use Rattle.sst_block.specs.Block.{Row, Spelled, IsInternalKey, HasForm, SaysHandle, LeadsTo}
+use Rattle.sst_block.proofs.Said.{handle_said-said, handle_said-found}
+use Rattle.sst_block.specs.BlockReading.{is_internal_key, handle_said, is_after, or_fault, Before, row_fault}
 
 -- the kind of a number, and the number of a kind
 kind_numbered-number : (kind : Kind) → kind_numbered (kind_number kind) ≡ Some kind
@@ -49,7 +48,7 @@ tag-kind seq Merge = omega arith
 tag-kind seq SingleDeletion = omega arith
 
 -- what is there
-some-is : {A : Type 0} (o : Option A) → is_some o ≡ true → (x : A) × (o ≡ Some x)
+pub some-is : {A : Type 0} (o : Option A) → is_some o ≡ true → (x : A) × (o ≡ Some x)
 some-is None is = cc
 some-is (Some x) is = (x, refl)
 
@@ -57,7 +56,7 @@ some-is (Some x) is = (x, refl)
 last-eight : (user : List ℕ) (t : ℕ) → drop (length (user ++ fixed 8 t) - 8) (user ++ fixed 8 t) ≡ fixed 8 t
 last-eight user t = ap (λ (n : ℕ). drop n (user ++ fixed 8 t)) (user_length user t) ∙ drop-front user (fixed 8 t)
 
-length-key : (user : List ℕ) (t : ℕ) → 8 ≤ length (user ++ fixed 8 t)
+pub length-key : (user : List ℕ) (t : ℕ) → 8 ≤ length (user ++ fixed 8 t)
 length-key user t = omega (arith, length-append user (fixed 8 t), length-fixed 8 t)
 
 parts-are : (key : List ℕ) (kind : Kind) → 8 ≤ length key → kind_numbered (kind_byte key) ≡ Some kind
@@ -116,31 +115,6 @@ internal_key-from key passes =
     ∙ ap (λ (xs : List ℕ). take (length key - 8) key ++ xs) (sym whole ∙ found.spells ∙ ap (fixed 8) parts) in
     (take (length key - 8) key, t / 256, kind, small, joined)
 
--- a block handle passes the test
-pub handle-passes : (value : List ℕ) → IsHandle value → is_handle value ≡ true
-handle-passes value is =
-    let joined : value ≡ handle_spelling is.0 ++ [] = is.3 ∙ sym (append-nil (handle_spelling is.0)) in
-    let read : handle_at value ≡ Some (is.0, length (handle_spelling is.0)) =
-    ap handle_at joined ∙ handle_at-handle is.0 [] is.1 is.2 in
-    let size : length (handle_spelling is.0) ≡ length value = ap length (sym is.3) in
-    ap (is_whole (length value)) read ∙ eq-eqb (length (handle_spelling is.0)) (length value) size
-
-whole-is : (n : ℕ) (read : Option (Handle × ℕ)) → is_whole n read ≡ true → (r : Handle × ℕ) × (read ≡ Some r) × (r.1 ≡ n)
-whole-is n None is = cc
-whole-is n (Some r) is = (r, refl, eqb-true r.1 n is)
-
--- what passes the test is a block handle
-pub handle-from : (value : List ℕ) → is_handle value ≡ true → IsHandle value
-handle-from value passes =
-    let part = whole-is (length value) (handle_at value) passes in
-    let found = handle_at-found part.0.0 part.0.1 value part.1 in
-    let size : length value ≡ length (handle_spelling part.0.0) + length found.0.0 =
-    ap length found.0.1 ∙ length-append (handle_spelling part.0.0) found.0.0 in
-    let none : length found.0.0 ≡ 0 = omega (arith, size, found.0.2, part.2) in
-    let joined : value ≡ handle_spelling part.0.0 =
-    found.0.1 ∙ ap (λ (xs : List ℕ). handle_spelling part.0.0 ++ xs) (nil_from_length found.0.0 none) ∙ append-nil (handle_spelling part.0.0) in
-    (part.0.0, found.1, found.2, joined)
-
 -- the three tests of a row
 tests-pass : (short formed after : Bool) (f g h : BlockFault) → short ≡ false → formed ≡ true → after ≡ true
     → (if short then Some f else or_fault (if formed then None else Some g) (if after then None else Some h)) ≡ None
@@ -158,40 +132,48 @@ order-passed : (after : Bool) (h : BlockFault) → (if after then None else Some
 order-passed true h is = refl
 order-passed false h is = cc
 
--- what an index asks of a row: its key has room for the tag that it has, and its value is a handle
-pub index-long : (user_key : Bool) (row : Row) → HasForm (Index user_key false) row → (not user_key && nat_lt (length row.key) 8) ≡ false
-index-long true row is = refl
-index-long false row is = le-ltb (length row.key) 8 is.0
+-- what an index asks of a row: its key has room for the tag that it has, and its value says a handle
+pub index-long : (user_key delta : Bool) (row : Row) → HasForm (Index user_key delta) row → (not user_key && nat_lt (length row.key) 8) ≡ false
+index-long true delta row is = refl
+index-long false true row is = le-ltb (length row.key) 8 is
+index-long false false row is = le-ltb (length row.key) 8 is.0
 
-pub index-handle : (user_key : Bool) (row : Row) → HasForm (Index user_key false) row → IsHandle row.value
-index-handle true row is = is
-index-handle false row is = is.1
+pub index-form : (user_key delta : Bool) (before : Handle) (s : Spelled) (h : Handle) → (not user_key && nat_lt (length s.row.key) 8) ≡ false
+    → SaysHandle delta before s h → HasForm (Index user_key delta) s.row
+index-form true true before s h long says = tt
+index-form true false before s h long says = (h, says.0, says.1, says.2)
+index-form false true before s h long says = ltb-false (length s.row.key) 8 long
+index-form false false before s h long says = (ltb-false (length s.row.key) 8 long, (h, says.0, says.1, says.2))
 
-pub index-form : (user_key : Bool) (row : Row) → (not user_key && nat_lt (length row.key) 8) ≡ false → IsHandle row.value → HasForm (Index user_key false) row
-index-form true row long is = is
-index-form false row long is = (ltb-false (length row.key) 8 long, is)
+-- a row of the form that leads to a handle and is after the one before has no fault
+pub row-passes : (form : RowForm) (at : ℕ) (before : Before) (s : Spelled) (h : Handle) → HasForm form s.row → LeadsTo form before.handle s h
+    → is_after form before.key s.row.key ≡ true → row_fault form at before s ≡ None
+row-passes Entries at before s h is leads after =
+    let long : 8 ≤ length s.row.key = subst (λ (key : List ℕ). 8 ≤ length key) (sym is.4) (length-key is.0 (tag is.1 is.2)) in
+    tests-pass (nat_lt (length s.row.key) 8) (is_internal_key s.row.key) (is_after Entries before.key s.row.key) (BadRow at) (BadKind at) (Disorder at)
+    (le-ltb (length s.row.key) 8 long) (internal_key-passes s.row.key is) after
+row-passes Names at before s h is leads after = rw after refl
+row-passes (Index user_key delta) at before s h is leads after =
+    tests-pass (not user_key && nat_lt (length s.row.key) 8) (is_some (handle_said delta s.shared before.handle s.row.value)) (is_after (Index user_key delta) before.key s.row.key)
+    (BadRow at) (BadHandle at) (Disorder at)
+    (index-long user_key delta s.row is) (ap is_some (handle_said-said delta before.handle s h leads)) after
 
--- a row of the form that is after the one before has no fault
-pub row-passes : (form : RowForm) (at : ℕ) (before : Option (List ℕ)) (row : Row) → HasNoFlags form → HasForm form row
-    → is_after form before row.key ≡ true → row_fault form at before row ≡ None
-row-passes Entries at before row plain is after =
-    let long : 8 ≤ length row.key = subst (λ (key : List ℕ). 8 ≤ length key) (sym is.4) (length-key is.0 (tag is.1 is.2)) in
-    tests-pass (nat_lt (length row.key) 8) (is_internal_key row.key) (is_after Entries before row.key) (BadRow at) (BadKind at) (Disorder at)
-    (le-ltb (length row.key) 8 long) (internal_key-passes row.key is) after
-row-passes Names at before row plain is after = rw after refl
-row-passes (Index user_key true) at before row plain is after = absurd plain
-row-passes (Index user_key false) at before row plain is after =
-    tests-pass (not user_key && nat_lt (length row.key) 8) (is_handle row.value) (is_after (Index user_key false) before row.key) (BadRow at) (BadHandle at) (Disorder at)
-    (index-long user_key row is) (handle-passes row.value (index-handle user_key row is)) after
+-- a row without a fault has the form, leads to a handle and is after the one before
+pub record RowSound (form : RowForm) (before : Before) (s : Spelled) : Type 0 where
+  pub has_form : HasForm form s.row
+  pub after : is_after form before.key s.row.key ≡ true
+  pub handle : Handle
+  pub leads : LeadsTo form before.handle s handle
 
--- a row without a fault has the form and is after the one before
-pub row-from : (form : RowForm) (at : ℕ) (before : Option (List ℕ)) (row : Row) → HasNoFlags form
-    → row_fault form at before row ≡ None → HasForm form row × (is_after form before row.key ≡ true)
-row-from Entries at before row plain is =
-    let tests = tests-passed (nat_lt (length row.key) 8) (is_internal_key row.key) (is_after Entries before row.key) (BadRow at) (BadKind at) (Disorder at) is in
-    (internal_key-from row.key tests.1, tests.2)
-row-from Names at before row plain is = (tt, order-passed (is_after Names before row.key) (Disorder at) is)
-row-from (Index user_key true) at before row plain is = absurd plain
-row-from (Index user_key false) at before row plain is =
-    let tests = tests-passed (not user_key && nat_lt (length row.key) 8) (is_handle row.value) (is_after (Index user_key false) before row.key) (BadRow at) (BadHandle at) (Disorder at) is in
-    (index-form user_key row tests.0 (handle-from row.value tests.1), tests.2)
+pub row-from : (form : RowForm) (at : ℕ) (before : Before) (s : Spelled) → row_fault form at before s ≡ None → RowSound form before s
+row-from Entries at before s is =
+    let tests = tests-passed (nat_lt (length s.row.key) 8) (is_internal_key s.row.key) (is_after Entries before.key s.row.key) (BadRow at) (BadKind at) (Disorder at) is in
+    record { has_form = internal_key-from s.row.key tests.1; after = tests.2; handle = before.handle; leads = refl }
+row-from Names at before s is =
+    record { has_form = tt; after = order-passed (is_after Names before.key s.row.key) (Disorder at) is; handle = before.handle; leads = refl }
+row-from (Index user_key delta) at before s is =
+    let tests = tests-passed (not user_key && nat_lt (length s.row.key) 8) (is_some (handle_said delta s.shared before.handle s.row.value))
+    (is_after (Index user_key delta) before.key s.row.key) (BadRow at) (BadHandle at) (Disorder at) is in
+    let read = some-is (handle_said delta s.shared before.handle s.row.value) tests.1 in
+    let says = handle_said-found delta before.handle s read.0 read.1 in
+    record { has_form = index-form user_key delta before.handle s read.0 tests.0 says; after = tests.2; handle = read.0; leads = says }

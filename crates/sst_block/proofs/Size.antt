@@ -1,45 +1,32 @@
 -- How long a block can be, by the lengths of its rows.
-use Rattle.std.proofs.Common.{◌≡◌, ℕ, zero, suc, ◌+◌, ◌-◌, ◌*◌, ◌/◌, ◌%◌, ◌^◌, ◌==◌, inr, ◌<◌, ◌≤◌, if◌then◌else◌, Bool, true, false, nat_lt, List, [], ◌∷◌, ◌++◌, length, length-append, sum_by, arith}
+use Rattle.std.proofs.Common.{◌≡◌, ℕ, ◌+◌, ◌-◌, ◌*◌, ◌%◌, ◌^◌, ◌==◌, inr, ◌<◌, ◌≤◌, if◌then◌else◌, true, false, List, [], ◌∷◌, ◌++◌, length, length-append, sum_by, refl, sym, subst, arith}
 use Rattle.std.specs.List.{flat_map}
-use Rattle.sst_num.specs.Spelling.{groups, varint, fixed}
+use Rattle.sst_num.specs.Spelling.{varint, fixed}
 use Rattle.sst_num.proofs.Fixed.{length-fixed}
-use Rattle.sst_block.specs.Block.{Row, Spelled, IsRow, AreOrdered, common, value_length, row_spelling, restarts_spelling}
+use Rattle.sst_block.specs.Block.{Row, Spelled, IsRow, AreOrdered, common, has_differences, value_length, row_spelling, restarts_spelling}
 use Rattle.sst_block.specs.Chosen.{chosen, restarts_from, restarts_of, block_of}
 use Rattle.sst_block.specs.declared.row_form.RowForm.{RowForm}
 use Rattle.sst_block.specs.declared.row_form.RowForm.TheVariants.{Entries, Names, Index}
 use Rattle.sst_block.specs.declared.builder.BlockBuilder.{BlockBuilder}
-use Rattle.sst_block.specs.Builder.{row_room, Holds, CanAdd}
+use Rattle.sst_block.specs.Builder.{row_room, spelled_of, row_put, Holds, GivesHandle, CanAdd}
 use Rattle.std.proofs.lemmas.List.Sums.{sum_by-cons}
 use Rattle.sst_block.proofs.RowAt.{length-row}
+pub use Rattle.sst_block.proofs.Varints.{length-varint}
+use Rattle.sst_block.proofs.Varints.{length-if}
 use Rattle.sst_block.proofs.Steps.{length-chosen, length-restarts}
 
-length-if : (test : Bool) (v : ℕ) (other : List ℕ) (n : ℕ) → 1 ≤ n → length other ≤ n → length (if test then v ∷ [] else other) ≤ n
-length-if true v other n some h = some
-length-if false v other n some h = h
-
--- no number takes more groups than there are
-length-groups : (n v : ℕ) → length (groups n v) ≤ suc n
-length-groups zero v = omega arith
-length-groups (suc n) v =
-    let rest = length-groups n (v / 128) in
-    length-if (nat_lt v 128) v ((v % 128 + 128) ∷ groups n (v / 128)) (suc (suc n)) (omega arith) (omega arith)
-
--- a varint has at most ten bytes
-pub length-varint : (v : ℕ) → length (varint v) ≤ 10
-unfolding varint
-length-varint v = length-groups 9 v
-
--- nor has the length of a value
-length-value_length : (form : RowForm) (value : List ℕ) → length (value_length form value) ≤ 10
-length-value_length Entries value = length-varint (length value)
-length-value_length Names value = length-varint (length value)
-length-value_length (Index user_key false) value = length-varint (length value)
-length-value_length (Index user_key true) value = omega arith
+-- nor has the length of a value more than ten bytes
+length-value_length : (form : RowForm) (n : ℕ) → length (value_length form n) ≤ 10
+length-value_length form n =
+    elim (has_differences form) as (λ b. length (if b then [] else varint n) ≤ 10) [
+      | true ↦ omega arith
+      | false ↦ length-varint n
+    ]
 
 -- a row is at most thirty bytes longer than its key and value
 row-le : (form : RowForm) (s : Spelled) → length (row_spelling form s) ≤ length s.row.key + length s.row.value + 30
 row-le form s =
-    omega (arith, length-row form s, length-value_length form s.row.value, length-varint (length s.row.key - s.shared), length-varint s.shared)
+    omega (arith, length-row form s, length-value_length form (length s.row.value), length-varint (length s.row.key - s.shared), length-varint s.shared)
 
 -- the most that a row takes before the restarts
 abbrev row_bytes : Row → ℕ
@@ -85,16 +72,35 @@ block_of-le form interval rows =
     let f = length-append (flat_map (row_spelling form) spelled) (restarts_spelling restarts) in
     omega (arith, a, b, c, d, e, f, sum-more rows, length-chosen interval 0 [] rows)
 
--- a row may be added where the rows with it have room
-pub can_add : (b : BlockBuilder) (form : RowForm) (interval : ℕ) (rows : List Row) (row : Row) → Holds b form interval rows
-    → IsRow form row → AreOrdered form (rows ++ row ∷ []) → sum_by row_room (rows ++ row ∷ []) + 8 < 2 ^ 29 → CanAdd b row
-can_add b form interval rows row holds has_form ordered room =
+-- where handles stand whole nothing is asked of a difference
+gives-none : (form : RowForm) (spelled : List Spelled) (value delta : List ℕ) → has_differences form ≡ false → GivesHandle form spelled value delta
+gives-none Entries spelled value delta plain = tt
+gives-none Names spelled value delta plain = tt
+gives-none (Index user_key false) spelled value delta plain = tt
+gives-none (Index user_key true) spelled value delta plain = cc
+
+-- and each value stands as it is given
+pub put-plain : (form : RowForm) (interval : ℕ) (rows : List Row) (row : Row) (delta : List ℕ) → has_differences form ≡ false → row_put form interval rows row delta ≡ row
+put-plain form interval rows row delta plain = rw plain refl
+
+-- a row may be added that may come next, in a form without differences
+pub takes-plain : (b : BlockBuilder) (form : RowForm) (interval : ℕ) (rows : List Row) (row : Row) (delta : List ℕ) → has_differences form ≡ false → Holds b form interval rows
+    → IsRow form row → AreOrdered form (rows ++ row ∷ []) → length (block_of form interval (rows ++ row ∷ [])) < 2 ^ 29 → CanAdd b row delta
+takes-plain b form interval rows row delta plain holds has_form ordered short =
+    let put = sym (put-plain form interval rows row delta plain) in
     inr (record {
       form = form;
       interval = interval;
       rows = rows;
       holds = holds;
-      has_form = has_form;
-      ordered = ordered;
-      short = omega (arith, block_of-le form interval (rows ++ row ∷ []), room);
+      has_form = subst (λ (r : Row). IsRow form r) put has_form;
+      given = gives-none form (spelled_of interval rows) row.value delta plain;
+      ordered = subst (λ (r : Row). AreOrdered form (rows ++ r ∷ [])) put ordered;
+      short = subst (λ (r : Row). length (block_of form interval (rows ++ r ∷ [])) < 2 ^ 29) put short;
     })
+
+-- and so where the rows with it have room
+pub can_add : (b : BlockBuilder) (form : RowForm) (interval : ℕ) (rows : List Row) (row : Row) (delta : List ℕ) → has_differences form ≡ false → Holds b form interval rows
+    → IsRow form row → AreOrdered form (rows ++ row ∷ []) → sum_by row_room (rows ++ row ∷ []) + 8 < 2 ^ 29 → CanAdd b row delta
+can_add b form interval rows row delta plain holds has_form ordered room =
+    takes-plain b form interval rows row delta plain holds has_form ordered (omega (arith, block_of-le form interval (rows ++ row ∷ []), room))

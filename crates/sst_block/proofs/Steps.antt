@@ -95,7 +95,7 @@ pub value-le : (form : RowForm) (s : Spelled) → length s.row.value ≤ length 
 value-le form s =
     let rest = drop s.shared s.row.key in
     let a = length-append rest s.row.value in
-    let said = value_length form s.row.value in
+    let said = value_length form (length s.row.value) in
     let b = length-append said (rest ++ s.row.value) in
     let c = length-append (varint (length s.row.key - s.shared)) (said ++ (rest ++ s.row.value)) in
     let d = length-append (varint s.shared) (varint (length s.row.key - s.shared) ++ (said ++ (rest ++ s.row.value))) in

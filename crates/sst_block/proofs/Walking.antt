@@ -2,45 +2,50 @@
 use Rattle.std.proofs.Common.{◌≡◌, ◌∙◌, ℕ, ◌+◌, Bool, true, false, inl, inr, List, [], length, take, drop, Option, Some, None, sym, ap, subst, arith}
 use Rattle.std.specs.Prelude.{slice_get, nat_lt}
 use Rattle.std.proofs.lemmas.Bool.{cases_lt, lt-ltb, le-ltb}
+use Rattle.sst_num.specs.declared.block_handle.Handle.{Handle}
 use Rattle.sst_block.specs.declared.row_form.RowForm.{RowForm}
 use Rattle.sst_block.specs.declared.iter.BlockIter.{BlockIter}
-use Rattle.sst_block.specs.Block.{Row, Spelled, Block, SpellsLengths, row_spelling}
-use Rattle.sst_block.specs.BlockReading.{row_at, restart_count, rows_end}
+use Rattle.sst_block.specs.Block.{Row, Spelled, Block, SharesFronts, row_spelling, no_handle, LeadTo}
+use Rattle.sst_block.specs.BlockReading.{nothing_before, row_at, restart_count, rows_end}
+use Rattle.sst_block.proofs.BlockRead.{block-follows}
+use Rattle.sst_block.proofs.Leading.{lead-next, lead-fresh}
 use Rattle.std.specs.List.{flat_map}
 use Rattle.sst_block.proofs.Halves.{split-block}
 use Rattle.sst_block.specs.Iter.{Walks, WalksIn, IsAt, HasTaken, StaysIn, place_of, start_of}
-use Rattle.sst_block.proofs.NextRow.{Awaits, next-row, none-next, fronts-behind, length-rows, row-spelled, rows-left, drop-at}
+use Rattle.sst_block.proofs.NextRow.{Awaits, LeadsOn, next-row, none-next, fronts-behind, length-rows, row-spelled, rows-left, drop-at}
 
 -- one row on: the walk shows the row at the front of the bytes, or there is none
-pub record Moves (it : BlockIter) (told : Bool) (key after : List ℕ) : Type 0 where
-  pub none : row_at key after ≡ None → (told ≡ false) × (it.stands ≡ false)
-  pub some : (s : Spelled) (used : ℕ) → row_at key after ≡ Some (s, used) → (told ≡ true) × HasTaken it s used after
+pub record Moves (it : BlockIter) (told : Bool) (form : RowForm) (handle : Handle) (key after : List ℕ) : Type 0 where
+  pub none : row_at form handle key after ≡ None → (told ≡ false) × (it.stands ≡ false)
+  pub some : (s : Spelled) (used : ℕ) → row_at form handle key after ≡ Some (s, used) → (told ≡ true) × HasTaken it form handle s used after
 
-pub moves-as : (it : BlockIter) (told : Bool) (key other after bytes : List ℕ) → key ≡ other → after ≡ bytes → Moves it told key after → Moves it told other bytes
-moves-as it told key other after bytes same equal m =
-    subst (λ (b : List ℕ). Moves it told other b) equal (subst (λ (k : List ℕ). Moves it told k after) same m)
+pub moves-as : (it : BlockIter) (told : Bool) (form : RowForm) (handle : Handle) (key other after bytes : List ℕ) → key ≡ other → after ≡ bytes
+    → Moves it told form handle key after → Moves it told form handle other bytes
+moves-as it told form handle key other after bytes same equal m =
+    subst (λ (b : List ℕ). Moves it told form handle other b) equal (subst (λ (k : List ℕ). Moves it told form handle k after) same m)
 
 -- a walk that stays in its block goes over it as before
 pub stays-in : (old new : BlockIter) (form : RowForm) (bytes : List ℕ) (rows : List Row) (b : Block form bytes rows) (place next : Option ℕ)
     → WalksIn old form bytes rows b place → StaysIn old new → IsAt new form b.spelled next → WalksIn new form bytes rows b next
 stays-in old new form bytes rows b place next w stays at =
     record {
+      form_is = stays.form ∙ w.form_is;
       rows_are = stays.rows ∙ w.rows_are;
       places_are = stays.places ∙ w.places_are;
       count = stays.count ∙ w.count;
-      spells = w.spells;
       is_at = at;
     }
 
 -- a move to the i-th row, where the rows from there on come next
-pub step-place : (old new : BlockIter) (told : Bool) (form : RowForm) (bytes : List ℕ) (rows : List Row) (b : Block form bytes rows) (place : Option ℕ) (i : ℕ) (key after : List ℕ)
-    → WalksIn old form bytes rows b place → StaysIn old new → Awaits form b.spelled i key after → Moves new told key after
+pub step-place : (old new : BlockIter) (told : Bool) (form : RowForm) (bytes : List ℕ) (rows : List Row) (b : Block form bytes rows) (place : Option ℕ) (i : ℕ) (handle : Handle) (key after : List ℕ)
+    → WalksIn old form bytes rows b place → StaysIn old new → Awaits form b.spelled i handle key after → Moves new told old.form handle key after
     → WalksIn new form bytes rows b (place_of rows i) × (told ≡ nat_lt i (length rows))
-step-place old new told form bytes rows b place i key after w stays a m =
+step-place old new told form bytes rows b place i handle key after w stays a moves =
+    let m = subst (λ (f : RowForm). Moves new told f handle key after) w.form_is moves in
     let many = length-rows form bytes rows b in
     elim (cases_lt i (length rows)) [
       | inl within ↦
-          let next = next-row form bytes rows b i key after w.spells (omega (arith, within, many)) a in
+          let next = next-row form bytes rows b i handle key after (omega (arith, within, many)) a in
           let moved = m.some next.s (length (row_spelling form next.s)) next.reads in
           let taken = moved.1 in
           let at : IsAt new form b.spelled (Some i) = (
@@ -53,34 +58,45 @@ step-place old new told form bytes rows b place i key after w stays a m =
               here = taken.here ∙ next.here;
               after = taken.after ∙ next.rest;
             },
+            subst (λ (h : Handle). LeadTo form no_handle (take (i + 1) b.spelled) h) (sym taken.handle_is) next.holds,
           ) in
           rw (lt-ltb i (length rows) within) (stays-in old new form bytes rows b place (Some i) w stays at, moved.0)
       | inr past ↦
-          let moved = m.none (none-next form b.spelled i key after w.spells (omega (arith, past, many)) a) in
+          let moved = m.none (none-next form b.spelled i handle key after (omega (arith, past, many)) a) in
           rw (le-ltb i (length rows) past) (stays-in old new form bytes rows b place None w stays moved.1, moved.0)
     ]
 
+-- a row that shares nothing leads on from no handle
+pub fresh-on : (form : RowForm) (bytes : List ℕ) (rows : List Row) (b : Block form bytes rows) (i : ℕ) → SharesFronts [] (drop i b.spelled) → LeadsOn form b.spelled i no_handle
+fresh-on form bytes rows b i fronts = λ s at.
+    let first = subst (λ (l : List Spelled). SharesFronts [] l) (drop-at b.spelled i s at) fronts in
+    lead-fresh form b.spelled i s (block-follows form bytes rows b) at (omega (arith, first.0))
+
 -- the first row
 pub first-in : (old new : BlockIter) (told : Bool) (form : RowForm) (bytes : List ℕ) (rows : List Row) (b : Block form bytes rows) (place : Option ℕ) (key after : List ℕ)
-    → WalksIn old form bytes rows b place → StaysIn old new → Moves new told key after → key ≡ [] → after ≡ old.rows.now
+    → WalksIn old form bytes rows b place → StaysIn old new → Moves new told old.form no_handle key after → key ≡ [] → after ≡ old.rows.now
     → WalksIn new form bytes rows b (place_of rows 0) × (told ≡ nat_lt 0 (length rows))
 first-in old new told form bytes rows b place key after w stays m no_key from =
-    step-place old new told form bytes rows b place 0 key after w stays
-    (record { after = from ∙ w.rows_are; fronts = rw no_key b.fronts }) m
+    step-place old new told form bytes rows b place 0 no_handle key after w stays
+    (record { after = from ∙ w.rows_are; fronts = rw no_key b.fronts; leads = fresh-on form bytes rows b 0 b.fronts }) m
 
 -- behind the row where it stands come those after it
 pub awaits-next : (it : BlockIter) (form : RowForm) (bytes : List ℕ) (rows : List Row) (b : Block form bytes rows) (i : ℕ) → WalksIn it form bytes rows b (Some i)
-    → Awaits form b.spelled (i + 1) it.key it.after.now
+    → Awaits form b.spelled (i + 1) it.handle it.key it.after.now
 awaits-next it form bytes rows b i w =
     let shows = w.is_at.2 in
-    record { after = shows.after; fronts = rw (shows.key) (fronts-behind b.spelled [] i w.is_at.0 b.fronts w.is_at.1) }
+    record {
+      after = shows.after;
+      fronts = rw (shows.key) (fronts-behind b.spelled [] i w.is_at.0 b.fronts w.is_at.1);
+      leads = λ s at. lead-next form nothing_before it.handle b.spelled (i + 1) s (block-follows form bytes rows b) w.is_at.3 at;
+    }
 
 -- the row behind the i-th
 pub next-in : (old new : BlockIter) (told : Bool) (form : RowForm) (bytes : List ℕ) (rows : List Row) (b : Block form bytes rows) (i : ℕ)
-    → WalksIn old form bytes rows b (Some i) → StaysIn old new → Moves new told old.key old.after.now
+    → WalksIn old form bytes rows b (Some i) → StaysIn old new → Moves new told old.form old.handle old.key old.after.now
     → WalksIn new form bytes rows b (place_of rows (i + 1)) × (told ≡ nat_lt (i + 1) (length rows))
 next-in old new told form bytes rows b i w stays m =
-    step-place old new told form bytes rows b (Some i) (i + 1) old.key old.after.now w stays (awaits-next old form bytes rows b i w) m
+    step-place old new told form bytes rows b (Some i) (i + 1) old.handle old.key old.after.now w stays (awaits-next old form bytes rows b i w) m
 
 -- the bytes before the row where it stands
 pub start-at : (it : BlockIter) (form : RowForm) (bytes : List ℕ) (rows : List Row) (b : Block form bytes rows) (i : ℕ) → WalksIn it form bytes rows b (Some i)
@@ -109,16 +125,16 @@ pub record IsSplit (it : BlockIter) (block : List ℕ) (count : ℕ) : Type 0 wh
   pub count_is : it.count ≡ count
 
 -- a walk that begins over the halves of a block stands nowhere
-pub starts-in : (it : BlockIter) (form : RowForm) (bytes : List ℕ) (rows : List Row) (b : Block form bytes rows) → SpellsLengths form
+pub starts-in : (it : BlockIter) (form : RowForm) (bytes : List ℕ) (rows : List Row) (b : Block form bytes rows) → it.form ≡ form
     → ((count : ℕ) → restart_count bytes ≡ Some count → IsSplit it bytes count) → it.stands ≡ false → WalksIn it form bytes rows b None
-starts-in it form bytes rows b spells halves nowhere =
+starts-in it form bytes rows b same halves nowhere =
     let split = split-block form bytes rows b in
     let found = halves (length b.restarts) split.counted in
     record {
+      form_is = same;
       rows_are = found.rows ∙ split.front;
       places_are = found.places ∙ split.back;
       count = found.count_is;
-      spells = spells;
       is_at = nowhere;
     }
 

@@ -1,7 +1,7 @@
 -- What the bytes of a block say: its rows, joined, then the places of its restarts, then how many those are.
 -- RocksDB: table/block_based/block_builder.cc (the layout at its top), table/block_based/block.h; wiki page
 -- "Rocksdb BlockBasedTable Format".
-use Rattle.std.specs.Prelude.{◌≡◌, ℕ, suc, ◌+◌, ◌-◌, ◌^◌, ◌<◌, ◌≤◌, ◌==◌, if◌then◌else◌, true, false, List, [], ◌∷◌, ◌++◌, length, drop, map, All, Contains, Some, slice_get}
+use Rattle.std.specs.Prelude.{◌≡◌, ℕ, zero, suc, ◌+◌, ◌-◌, ◌^◌, ◌<◌, ◌≤◌, ◌==◌, ℤ, pos, ◌+ℤ◌, if◌then◌else◌, Bool, true, false, List, [], ◌∷◌, ◌++◌, length, drop, map, All, Contains, Some, slice_get}
 use Rattle.std.specs.List.{flat_map}
 use Rattle.std.specs.List.Sorted.{IsStrictlyIncreasing}
 use Rattle.std.specs.Ordering.{nat_cmp}
@@ -9,7 +9,7 @@ use Rattle.std.specs.Cmp.Lexicographic.{slice_cmp}
 use Rattle.std.specs.declared.cmp.Ordering.{Ordering}
 use Rattle.std.specs.declared.cmp.Ordering.TheVariants.{Less}
 use Rattle.sst_num.specs.declared.block_handle.Handle.{Handle}
-use Rattle.sst_num.specs.Spelling.{varint, fixed, handle_spelling}
+use Rattle.sst_num.specs.Spelling.{varint, IsSigned64, signed_varint, fixed, handle_spelling}
 use Rattle.sst_key.specs.declared.entries.Kind.{Kind}
 use Rattle.sst_key.specs.Entry.{internal_key}
 use Rattle.sst_key.specs.InternalKey.{internal_cmp}
@@ -37,30 +37,26 @@ common [] b = 0
 common (x ∷ a) [] = 0
 common (x ∷ a) (y ∷ b) = if x == y then suc (common a b) else 0
 
+-- the handles of the form are differences from the one before
+-- RocksDB: block_builder.cc, Add (use_value_delta_encoding)
+-- Pinned by: sound_blocks, blocks_that_are_built
+abbrev pub has_differences : RowForm → Bool
+has_differences Entries = false
+has_differences Names = false
+has_differences (Index user_key delta) = delta
+
 -- the length of a value, as its row spells it: rows whose handles are differences have none
 -- RocksDB: block_builder.cc, Add (use_value_delta_encoding)
--- Pinned by: sound_blocks, blocks_that_are_built, nothing yet (of differences)
-abbrev pub value_length : RowForm → List ℕ → List ℕ
-value_length Entries value = varint (length value)
-value_length Names value = varint (length value)
-value_length (Index user_key false) value = varint (length value)
-value_length (Index user_key true) value = []
-
--- each row of the form spells the length of its value
--- For proofs alone.
--- Pinned by: reading_finds_exactly_the_rows
-abbrev pub SpellsLengths : RowForm → Type 0
-SpellsLengths Entries = Unit {0}
-SpellsLengths Names = Unit {0}
-SpellsLengths (Index user_key false) = Unit {0}
-SpellsLengths (Index user_key true) = ⊥
+-- Pinned by: sound_blocks, blocks_that_are_built
+abbrev pub value_length : RowForm → ℕ → List ℕ
+value_length form n = if has_differences form then [] else varint n
 
 -- a row: the lengths that its form spells, the rest of the key, the value
 -- RocksDB: block_builder.cc, Add
 -- Pinned by: reading_finds_exactly_the_rows, sound_blocks, blocks_that_are_built
 abbrev pub row_spelling : RowForm → Spelled → List ℕ
 row_spelling form s =
-    varint s.shared ++ (varint (length s.row.key - s.shared) ++ (value_length form s.row.value ++ (drop s.shared s.row.key ++ s.row.value)))
+    varint s.shared ++ (varint (length s.row.key - s.shared) ++ (value_length form (length s.row.value) ++ (drop s.shared s.row.key ++ s.row.value)))
 
 -- each row shares no more with the row before than their keys have in common; `before` is the key before
 -- Pinned by: reading_finds_exactly_the_rows, faulty_blocks, sound_blocks
@@ -111,8 +107,8 @@ IsInternalKey key = (user : List ℕ) × (seq : ℕ) × (kind : Kind) × (seq < 
 abbrev pub IsHandle : List ℕ → Type 0
 IsHandle value = (h : Handle) × (h.offset < 2 ^ 64) × (h.size < 2 ^ 64) × (value ≡ handle_spelling h)
 
--- the row has the form: its key, and its value where the form says something of it. What the values are of index
--- blocks with differences of handles isn't said yet: no row has that form.
+-- the row has the form: its key, and its value where the form says something of it. A value that may be a difference is
+-- spoken of with the row before, in `SayHandles`.
 -- Own.
 -- Pinned by: reading_finds_exactly_the_rows, faulty_blocks, handles
 abbrev pub HasForm : RowForm → Row → Type 0
@@ -120,12 +116,68 @@ HasForm Entries row = IsInternalKey row.key
 HasForm Names row = Unit {0}
 HasForm (Index true false) row = IsHandle row.value
 HasForm (Index false false) row = (8 ≤ length row.key) × IsHandle row.value
-HasForm (Index user_key true) row = ⊥
+HasForm (Index true true) row = Unit {0}
+HasForm (Index false true) row = 8 ≤ length row.key
 
 -- the row may stand in a block: a stored key isn't longer than one may be
 -- Pinned by: reading_finds_exactly_the_rows, long_keys
 abbrev pub IsRow : RowForm → Row → Type 0
 IsRow form row = (length row.key ≤ stored_key_limit) × HasForm form row
+
+-- the handle of no block, which is before the first
+-- RocksDB: table/format.h, BlockHandle::NullBlockHandle
+-- Pinned by: sound_blocks, index_rows_are_one
+abbrev pub no_handle : Handle
+no_handle = record { offset = 0; size = 0 }
+
+-- the value is the difference of two sizes: of the handle `h`, and of the one before it, behind whose block and trailer the
+-- block of `h` begins
+-- RocksDB: table/format.cc, IndexValue::EncodeTo
+-- Pinned by: reading_finds_exactly_the_rows, index_blocks
+pub record IsDifference (before : Handle) (value : List ℕ) (h : Handle) : Type 0 where
+  pub begins : h.offset ≡ before.offset + before.size + 5
+  pub difference : ℤ
+  pub signed : IsSigned64 difference
+  pub size : pos h.size ≡ pos before.size +ℤ difference
+  pub value_is : value ≡ signed_varint difference
+
+-- a value says the handle: the whole of it where the row shares nothing, or where handles aren't differences
+-- RocksDB: block.cc, DecodeCurrentValue
+-- Pinned by: reading_finds_exactly_the_rows, index_blocks
+abbrev pub ValueSays : Bool → ℕ → Handle → List ℕ → Handle → Type 0
+ValueSays false shared before value h = value ≡ handle_spelling h
+ValueSays true zero before value h = value ≡ handle_spelling h
+ValueSays true (suc shared) before value h = IsDifference before value h
+
+-- a row says the handle, which is within 64 bits; `before` is the handle of the row before
+-- Pinned by: reading_finds_exactly_the_rows, index_blocks
+abbrev pub SaysHandle : Bool → Handle → Spelled → Handle → Type 0
+SaysHandle delta before s h = (h.offset < 2 ^ 64) × (h.size < 2 ^ 64) × ValueSays delta s.shared before s.row.value h
+
+-- where handles are differences, each row says one; `before` is the handle of the row before
+-- RocksDB: block.cc, DecodeCurrentValue
+-- Pinned by: reading_finds_exactly_the_rows, faulty_blocks
+abbrev pub SayHandles : RowForm → Handle → List Spelled → Type 0
+SayHandles Entries before spelled = Unit {0}
+SayHandles Names before spelled = Unit {0}
+SayHandles (Index user_key false) before spelled = Unit {0}
+SayHandles (Index user_key true) before [] = Unit {0}
+SayHandles (Index user_key true) before (s ∷ rest) =
+    (h : Handle) × SaysHandle true before s h × SayHandles (Index user_key true) h rest
+
+-- behind the row stands this handle: in an index the one that the row says, and else still the one before
+-- RocksDB: block.cc, DecodeCurrentValue
+-- Pinned by: first_fault_is_first, faulty_blocks
+abbrev pub LeadsTo : RowForm → Handle → Spelled → Handle → Type 0
+LeadsTo Entries before s h = h ≡ before
+LeadsTo Names before s h = h ≡ before
+LeadsTo (Index user_key delta) before s h = SaysHandle delta before s h
+
+-- behind the rows stands this handle
+-- Pinned by: first_fault_is_first, faulty_blocks, handle
+abbrev pub LeadTo : RowForm → Handle → List Spelled → Handle → Type 0
+LeadTo form before [] h = h ≡ before
+LeadTo form before (s ∷ rest) h = (next : Handle) × LeadsTo form before s next × LeadTo form next rest h
 
 -- what follows the rows: each restart's place in four bytes, and then how many there are
 -- RocksDB: block_builder.cc, Finish
@@ -147,4 +199,5 @@ pub record Block (form : RowForm) (bytes : List ℕ) (rows : List Row) : Type 0 
   pub places : AreRestarts form restarts spelled
   pub forms : All (IsRow form) rows
   pub ordered : AreOrdered form rows
+  pub handles : SayHandles form no_handle spelled
   pub short : length bytes ≤ block_limit

@@ -3,11 +3,11 @@
 -- RocksDB: DecodeEntry and CheckAndDecodeEntry in table/block_based/block.cc, Block::NumRestarts in
 -- table/block_based/block.cc. RocksDB checks less: what more is refused here is this project's own.
 -- Pinned by: reading_finds_exactly_the_rows, first_fault_is_first
-use Rattle.std.specs.Prelude.{◌≡◌, ℕ, zero, suc, ◌+◌, ◌-◌, ◌*◌, ◌==◌, Bool, true, false, not, ◌&&◌, nat_lt, nat_le, nat_eq, if◌then◌else◌, List, [], ◌∷◌, ◌++◌, length, take, drop, map, Option, None, Some, option_and_then, Result, Ok, Err}
+use Rattle.std.specs.Prelude.{◌≡◌, ℕ, zero, suc, ◌+◌, ◌-◌, ◌*◌, ◌^◌, ◌==◌, ℤ, pos, negsuc, ◌+ℤ◌, Bool, true, false, not, ◌&&◌, nat_lt, nat_le, nat_eq, if◌then◌else◌, List, [], ◌∷◌, ◌++◌, length, take, drop, map, Option, None, Some, option_and_then, option_map, Result, Ok, Err}
 use Rattle.std.specs.List.{list_any}
 use Rattle.std.specs.Option.{is_some}
 use Rattle.std.specs.Ordering.{is_lt}
-use Rattle.sst_num.specs.NumberReading.{varint32_at, handle_at, fixed_at}
+use Rattle.sst_num.specs.NumberReading.{varint32_at, signed_at, handle_at, fixed_at}
 use Rattle.sst_num.specs.declared.block_handle.Handle.{Handle}
 use Rattle.sst_num.specs.declared.stops.Refused.{Refused}
 use Rattle.sst_num.specs.declared.stops.Refused.TheVariants.{Cause, Memory}
@@ -17,9 +17,49 @@ use Rattle.sst_block.specs.declared.row_form.RowForm.{RowForm}
 use Rattle.sst_block.specs.declared.row_form.RowForm.TheVariants.{Entries, Names, Index}
 use Rattle.sst_block.specs.declared.fault.BlockFault.{BlockFault}
 use Rattle.sst_block.specs.declared.fault.BlockFault.TheVariants.{BadRow, BadRestart, BadFooter, Disorder, BadKind, BadHandle}
-use Rattle.sst_block.specs.Block.{Row, Spelled, key_cmp, fresh_starts}
+use Rattle.sst_block.specs.Block.{Row, Spelled, has_differences, no_handle, key_cmp, fresh_starts}
 
--- the three lengths that a row begins with, and how many bytes they take
+-- the number, where it isn't below 0
+-- For proofs alone.
+abbrev pub natural : ℤ → Option ℕ
+natural (pos n) = Some n
+natural (negsuc n) = None
+
+-- the handle of this size that begins behind the block and trailer of the one before, if its numbers are within 64 bits
+-- RocksDB: table/format.cc, IndexValue::DecodeFrom; that numbers don't wrap is own
+-- Pinned by: reading_finds_exactly_the_rows, faulty_blocks
+abbrev pub handle_behind : Handle → ℕ → Option Handle
+handle_behind before size =
+    if nat_lt (before.offset + before.size + 5) (2 ^ 64) && nat_lt size (2 ^ 64)
+    then Some (record { offset = before.offset + before.size + 5; size = size })
+    else None
+
+-- the handle whose size differs so much from that of the one before
+-- RocksDB: table/format.cc, IndexValue::DecodeFrom; that no size is below 0 is own
+-- Pinned by: reading_finds_exactly_the_rows, faulty_blocks
+abbrev pub handle_by : Handle → ℤ → Option Handle
+handle_by before difference = option_and_then (handle_behind before) (natural (pos before.size +ℤ difference))
+
+-- the same, with how many bytes the difference takes
+-- Own.
+abbrev pub handle_read : Handle → ℤ × ℕ → Option (Handle × ℕ)
+handle_read before read = option_map (λ h. (h, read.1)) (handle_by before read.0)
+
+-- the handle that is said at the front, behind the one before, in a row that shares so many bytes, and how many bytes it takes
+-- RocksDB: block.cc, DecodeCurrentValue
+-- Pinned by: reading_finds_exactly_the_rows, faulty_blocks
+abbrev pub said_at : Bool → ℕ → Handle → List ℕ → Option (Handle × ℕ)
+said_at false shared before bytes = handle_at bytes
+said_at true zero before bytes = handle_at bytes
+said_at true (suc shared) before bytes = option_and_then (handle_read before) (signed_at bytes)
+
+-- how many bytes were taken, if any
+-- Own.
+abbrev pub taken : Option (Handle × ℕ) → ℕ
+taken None = 0
+taken (Some read) = read.1
+
+-- the lengths that a row begins with, and how many bytes they take; that of the value is spelled there or told by it
 -- Pinned by: reading_finds_exactly_the_rows, faulty_blocks
 pub record Lengths : Type 0 where
   pub shared : ℕ
@@ -27,13 +67,21 @@ pub record Lengths : Type 0 where
   pub value : ℕ
   pub used : ℕ
 
--- three varints, one after the other
+-- the length of the value of a row that shares so many bytes, and how many bytes its spelling takes at the front. Where handles
+-- are differences it has none: the value stands behind the `rest` bytes of the key, and has no byte where no handle is said.
+-- RocksDB: block.cc, DecodeKeyV4
 -- Pinned by: reading_finds_exactly_the_rows, faulty_blocks
-unfoldable pub lengths_at : List ℕ → Option Lengths
-lengths_at bytes =
+abbrev pub value_length_at : RowForm → Handle → ℕ → ℕ → List ℕ → Option (ℕ × ℕ)
+value_length_at form before shared rest bytes =
+    if has_differences form then Some (taken (said_at true shared before (drop rest bytes)), 0) else varint32_at bytes
+
+-- two varints, one after the other, and the length of the value
+-- Pinned by: reading_finds_exactly_the_rows, faulty_blocks
+unfoldable pub lengths_at : RowForm → Handle → List ℕ → Option Lengths
+lengths_at form before bytes =
     option_and_then (λ shared. option_and_then (λ rest. option_and_then (λ value.
     Some (record { shared = shared.0; rest = rest.0; value = value.0; used = shared.1 + rest.1 + value.1 }))
-    (varint32_at (drop (shared.1 + rest.1) bytes)))
+    (value_length_at form before shared.0 rest.0 (drop (shared.1 + rest.1) bytes)))
     (varint32_at (drop shared.1 bytes)))
     (varint32_at bytes)
 
@@ -65,8 +113,8 @@ abbrev pub row_of_lengths : List ℕ → List ℕ → Lengths → Option (Spelle
 row_of_lengths before bytes l =
     if are_within before (length bytes) l then Some (row_by before bytes l, l.used + l.rest + l.value) else None
 
-unfoldable pub row_at : List ℕ → List ℕ → Option (Spelled × ℕ)
-row_at before bytes = option_and_then (row_of_lengths before bytes) (lengths_at bytes)
+unfoldable pub row_at : RowForm → Handle → List ℕ → List ℕ → Option (Spelled × ℕ)
+row_at form handle before bytes = option_and_then (row_of_lengths before bytes) (lengths_at form handle bytes)
 
 -- the keys of the form end with a tag
 -- RocksDB: db/dbformat.h
@@ -82,23 +130,41 @@ has_tag (Index user_key delta) = not user_key
 abbrev pub is_internal_key : List ℕ → Bool
 is_internal_key key = is_some (parts_of key) && is_some (fixed_at 8 (drop (length key - 8) key))
 
--- the value is a block handle and nothing else
+-- the handle that was read, if it takes all of n bytes
 -- RocksDB: table/format.cc, BlockHandle::DecodeFrom
 -- Pinned by: reading_finds_exactly_the_rows, handles
-abbrev pub is_whole : ℕ → Option (Handle × ℕ) → Bool
-is_whole n None = false
-is_whole n (Some read) = read.1 == n
+abbrev pub whole_handle : ℕ → Handle × ℕ → Option Handle
+whole_handle n read = if read.1 == n then Some read.0 else None
 
-abbrev pub is_handle : List ℕ → Bool
-is_handle value = is_whole (length value) (handle_at value)
+-- the handle that the value says, and nothing else
+-- RocksDB: block.cc, DecodeCurrentValue
+-- Pinned by: reading_finds_exactly_the_rows, faulty_blocks
+abbrev pub handle_said : Bool → ℕ → Handle → List ℕ → Option Handle
+handle_said delta shared before value = option_and_then (whole_handle (length value)) (said_at delta shared before value)
 
--- what the form says of a row's value and of the kind in its key, in this order; `at` is where the row begins
+-- the handle, or else the one before
+-- Own.
+abbrev pub or_handle : Handle → Option Handle → Handle
+or_handle before None = before
+or_handle before (Some h) = h
+
+-- the handle behind a row that shares so many bytes and has this value: in an index the one that it says
+-- Own.
+-- Pinned by: reading_finds_exactly_the_rows, faulty_blocks
+abbrev pub handle_after : RowForm → Handle → ℕ → List ℕ → Handle
+handle_after Entries before shared value = before
+handle_after Names before shared value = before
+handle_after (Index user_key delta) before shared value = or_handle before (handle_said delta shared before value)
+
+-- what the form says of a row's value and of the kind in its key, in this order; `at` is where the row begins, and `handle`
+-- the handle of the row before
 -- Own.
 -- Pinned by: first_fault_is_first, faulty_blocks, handles
-abbrev pub form_fault : RowForm → ℕ → Row → Option BlockFault
-form_fault Entries at row = if is_internal_key row.key then None else Some (BadKind at)
-form_fault Names at row = None
-form_fault (Index user_key delta) at row = if is_handle row.value then None else Some (BadHandle at)
+abbrev pub form_fault : RowForm → ℕ → Handle → Spelled → Option BlockFault
+form_fault Entries at handle s = if is_internal_key s.row.key then None else Some (BadKind at)
+form_fault Names at handle s = None
+form_fault (Index user_key delta) at handle s =
+    if is_some (handle_said delta s.shared handle s.row.value) then None else Some (BadHandle at)
 
 -- the key is after the one before, if there is one
 -- Own.
@@ -117,13 +183,31 @@ abbrev pub or_fault : Option BlockFault → Option BlockFault → Option BlockFa
 or_fault None next = next
 or_fault (Some fault) next = Some fault
 
+-- what a row needs of those before it: the key of the last, if there is one, and the handle that it says
+-- Own.
+-- Pinned by: first_fault_is_first
+pub record Before : Type 0 where
+  pub key : Option (List ℕ)
+  pub handle : Handle
+
+-- no row is before the first
+-- Own.
+abbrev pub nothing_before : Before
+nothing_before = record { key = None; handle = no_handle }
+
+-- behind one more row
+-- Own.
+-- Pinned by: first_fault_is_first
+abbrev pub behind : RowForm → Before → Spelled → Before
+behind form before s = record { key = Some s.row.key; handle = handle_after form before.handle s.shared s.row.value }
+
 -- the first damage of a row whose lengths are good: its key is too short for a tag, what the form says, the order
 -- Own.
 -- Pinned by: first_fault_is_first
-abbrev pub row_fault : RowForm → ℕ → Option (List ℕ) → Row → Option BlockFault
-row_fault form at before row =
-    if has_tag form && nat_lt (length row.key) 8 then Some (BadRow at)
-    else or_fault (form_fault form at row) (order_fault form at before row)
+abbrev pub row_fault : RowForm → ℕ → Before → Spelled → Option BlockFault
+row_fault form at before s =
+    if has_tag form && nat_lt (length s.row.key) 8 then Some (BadRow at)
+    else or_fault (form_fault form at before.handle s) (order_fault form at before.key s.row)
 
 -- the front that a key may share
 -- RocksDB: block.cc, ParseNextKey
@@ -147,32 +231,32 @@ then_read (Err fault) next = Err fault
 -- the row at the front, if it has no damage
 -- Own.
 -- Pinned by: first_fault_is_first, faulty_blocks
-abbrev pub sound_row : RowForm → ℕ → Option (List ℕ) → Option (Spelled × ℕ) → Result (Spelled × ℕ) BlockFault
+abbrev pub sound_row : RowForm → ℕ → Before → Option (Spelled × ℕ) → Result (Spelled × ℕ) BlockFault
 sound_row form at before None = Err (BadRow at)
-sound_row form at before (Some read) = unless read (row_fault form at before read.0.row)
+sound_row form at before (Some read) = unless read (row_fault form at before read.0)
 
-unfoldable pub row_read : RowForm → ℕ → Option (List ℕ) → List ℕ → Result (Spelled × ℕ) BlockFault
-row_read form at before bytes = sound_row form at before (row_at (key_before before) bytes)
+unfoldable pub row_read : RowForm → ℕ → Before → List ℕ → Result (Spelled × ℕ) BlockFault
+row_read form at before bytes = sound_row form at before (row_at form before.handle (key_before before.key) bytes)
 
 -- a row before others
 -- Own.
 abbrev pub onto_rows : Spelled → Result (List Spelled) BlockFault → Result (List Spelled) BlockFault
 onto_rows s rest = then_read rest (λ rows. Ok (s ∷ rows))
 
--- the rows that stand in the bytes, of which there are at most n: `at` is where the first begins, `before` the key
+-- the rows that stand in the bytes, of which there are at most n: `at` is where the first begins, `before` what is
 -- before it
 -- Own.
-abbrev pub rows_from : ℕ → RowForm → ℕ → Option (List ℕ) → List ℕ → Result (List Spelled) BlockFault
+abbrev pub rows_from : ℕ → RowForm → ℕ → Before → List ℕ → Result (List Spelled) BlockFault
 rows_from zero form at before bytes = Ok []
 rows_from (suc n) form at before [] = Ok []
 rows_from (suc n) form at before (b ∷ bytes) =
     then_read (row_read form at before (b ∷ bytes))
-    (λ read. onto_rows read.0 (rows_from n form (at + read.1) (Some read.0.row.key) (drop read.1 (b ∷ bytes))))
+    (λ read. onto_rows read.0 (rows_from n form (at + read.1) (behind form before read.0) (drop read.1 (b ∷ bytes))))
 
 -- the rows that stand in the bytes; each takes a byte at least
 -- Own.
 unfoldable pub rows_read : RowForm → List ℕ → Result (List Spelled) BlockFault
-rows_read form bytes = rows_from (length bytes) form 0 None bytes
+rows_read form bytes = rows_from (length bytes) form 0 nothing_before bytes
 
 -- the number of restarts agrees with the block's length: there is one at least, and they stand before the footer
 -- Pinned by: first_fault_is_first, faulty_blocks

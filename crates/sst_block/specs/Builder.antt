@@ -1,24 +1,17 @@
 -- What a builder of a block holds between its calls: the rows that were added, spelled, and what the next row
 -- needs of them. RocksDB: BlockBuilder in table/block_based/block_builder.h.
 -- Pinned by: finish.exact
-use Rattle.std.specs.Prelude.{◌≡◌, ◌⊎◌, ℕ, ◌+◌, ◌*◌, ◌<◌, ◌≤◌, true, false, List, [], ◌∷◌, ◌++◌, length, All}
+use Rattle.std.specs.Prelude.{◌≡◌, ◌⊎◌, ℕ, ◌+◌, ◌*◌, ◌%◌, ◌^◌, ◌==◌, ◌<◌, ◌≤◌, nat_lt, ◌&&◌, if◌then◌else◌, Bool, true, false, List, [], ◌∷◌, ◌++◌, length, All}
 use Rattle.std.specs.List.{flat_map}
-use Rattle.sst_num.specs.Spelling.{fixed}
+use Rattle.sst_num.specs.Spelling.{fixed, handle_spelling}
+use Rattle.sst_num.specs.declared.block_handle.Handle.{Handle}
 use Rattle.sst_key.specs.Limits.{block_limit}
 use Rattle.sst_block.specs.declared.row_form.RowForm.{RowForm}
-use Rattle.sst_block.specs.declared.row_form.RowForm.TheVariants.{Entries, Names, Index}
 use Rattle.sst_block.specs.declared.builder.BlockBuilder.{BlockBuilder}
-use Rattle.sst_block.specs.Block.{Row, Spelled, common, row_spelling, IsRow, AreOrdered}
+use Rattle.sst_block.specs.declared.row_form.RowForm.TheVariants.{Entries, Names, Index}
+use Rattle.sst_block.specs.Block.{Row, Spelled, common, has_differences, row_spelling, IsRow, AreOrdered, no_handle, IsDifference, SayHandles, LeadTo}
+use Rattle.sst_block.specs.IndexRows.{IndexPair, SayPairs}
 use Rattle.sst_block.specs.Chosen.{chosen, restarts_of, block_of}
-
--- the form has no differences: each row spells the length of its value, and its handles stand as they are
--- Own, for now.
--- Pinned by: sound_blocks (too strict), reading_finds_exactly_the_rows.sound (too loose)
-abbrev pub HasNoFlags : RowForm → Type 0
-HasNoFlags Entries = Unit {0}
-HasNoFlags Names = Unit {0}
-HasNoFlags (Index user_key false) = Unit {0}
-HasNoFlags (Index user_key true) = ⊥
 
 -- the key of the last row; `before` is the key before the rows
 -- Own.
@@ -37,6 +30,25 @@ row_room row = length row.key + length row.value + 34
 -- For proofs alone.
 abbrev pub spelled_of : ℕ → List Row → List Spelled
 spelled_of interval rows = chosen interval 0 [] rows
+
+-- how many bytes the next row shares, whose key this is
+-- RocksDB: block_builder.cc, AddWithLastKeyImpl
+-- Pinned by: each_group_begins_whole
+abbrev pub shared_by : ℕ → List Row → List ℕ → ℕ
+shared_by interval rows key = if length rows % interval == 0 then 0 else common (last_key [] rows) key
+
+-- what stands in the block for a value: in its place the difference, where handles are differences and the row shares bytes
+-- RocksDB: block_builder.cc, AddWithLastKeyImpl
+-- Pinned by: index_blocks
+abbrev pub value_put : RowForm → ℕ → List ℕ → List ℕ → List ℕ
+value_put form shared value delta = if has_differences form && nat_lt 0 shared then delta else value
+
+-- the next row as it stands in the block, of the key and the value that are given, and the difference
+-- RocksDB: block_builder.cc, AddWithLastKeyImpl
+-- Pinned by: index_blocks
+abbrev pub row_put : RowForm → ℕ → List Row → Row → List ℕ → Row
+row_put form interval rows row delta =
+    record { key = row.key; value = value_put form (shared_by interval rows row.key) row.value delta }
 
 -- of n rows `since` are in the group that the last restart began; a full group ends only at the next row
 -- For proofs alone.
@@ -58,6 +70,7 @@ pub record MayStand (form : RowForm) (interval : ℕ) (rows : List Row) : Type 0
   pub most : interval ≤ interval_limit
   pub forms : All (IsRow form) rows
   pub ordered : AreOrdered form rows
+  pub handles : SayHandles form no_handle (spelled_of interval rows)
   pub short : length (block_of form interval rows) < block_limit
 
 -- what a builder keeps of the rows: their bytes, the restarts in four bytes each, how many those are, the key
@@ -76,6 +89,7 @@ pub record Keeps (form : RowForm) (interval : ℕ) (rows : List Row) (bytes rest
 -- For proofs alone.
 pub record IsReady (form : RowForm) (interval : ℕ) (rows : List Row) (bytes restarts last : List ℕ) (count since : ℕ) : Type 0 where
   pub bytes_are : bytes ≡ flat_map (row_spelling form) (spelled_of interval rows)
+  pub shares : (key : List ℕ) → shared_by interval rows key ≡ common last key
   pub spelled_are : (row : Row) → spelled_of interval (rows ++ row ∷ [])
       ≡ spelled_of interval rows ++ record { shared = common last row.key; row = row } ∷ []
   pub restarts_are : (row : Row) → restarts ≡ flat_map (fixed 4) (restarts_of form interval (spelled_of interval (rows ++ row ∷ [])))
@@ -107,21 +121,42 @@ pub record AwaitsRow (b : BlockBuilder) (form : RowForm) (interval : ℕ) (rows 
   pub interval_is : b.interval ≡ interval
   pub ready : IsReady form interval rows b.bytes.items b.restarts.items b.last.items b.count b.since
 
+-- the builder of an index holds the rows of these pairs
+-- Own.
+-- Pinned by: add.pairs, finish.index
+pub record HoldsPairs (b : BlockBuilder) (user_key delta : Bool) (interval : ℕ) (pairs : List IndexPair) : Type 0 where
+  pub rows : List Row
+  pub holds : Holds b (Index user_key delta) interval rows
+  pub says : SayPairs delta no_handle (spelled_of interval rows) pairs
+
+-- where handles are differences, the value is a handle; behind a row, it begins 5 bytes after the end of the handle before, and
+-- `delta` is its size less the size before
+-- RocksDB: table/format.cc, IndexValue::EncodeTo
+-- Pinned by: add.ok, add.pairs
+abbrev pub GivesHandle : RowForm → List Spelled → List ℕ → List ℕ → Type 0
+GivesHandle Entries spelled value delta = Unit {0}
+GivesHandle Names spelled value delta = Unit {0}
+GivesHandle (Index user_key false) spelled value delta = Unit {0}
+GivesHandle (Index user_key true) spelled value delta =
+    (before : Handle) × (h : Handle) × LeadTo (Index user_key true) no_handle spelled before × (h.offset < 2 ^ 64) × (h.size < 2 ^ 64)
+    × (value ≡ handle_spelling h) × (0 < length spelled → IsDifference before delta h)
+
 -- the row may come after those that the builder holds: it has the form, its key is after the last, and the
--- block stays short
+-- block stays short; where handles are differences, `delta` is that of its handle
 -- Own.
 -- Pinned by: add.ok
-pub record Takes (b : BlockBuilder) (row : Row) : Type 0 where
+pub record Takes (b : BlockBuilder) (row : Row) (delta : List ℕ) : Type 0 where
   pub form : RowForm
   pub interval : ℕ
   pub rows : List Row
   pub holds : Holds b form interval rows
-  pub has_form : IsRow form row
-  pub ordered : AreOrdered form (rows ++ row ∷ [])
-  pub short : length (block_of form interval (rows ++ row ∷ [])) < block_limit
+  pub has_form : IsRow form (row_put form interval rows row delta)
+  pub given : GivesHandle form (spelled_of interval rows) row.value delta
+  pub ordered : AreOrdered form (rows ++ row_put form interval rows row delta ∷ [])
+  pub short : length (block_of form interval (rows ++ row_put form interval rows row delta ∷ [])) < block_limit
 
 -- a builder that has failed refuses each row, and any other takes those that may come next
 -- Own.
 -- Pinned by: add.ok
-abbrev pub CanAdd : BlockBuilder → Row → Type 0
-CanAdd b row = HasFailed b ⊎ Takes b row
+abbrev pub CanAdd : BlockBuilder → Row → List ℕ → Type 0
+CanAdd b row delta = HasFailed b ⊎ Takes b row delta

@@ -6,12 +6,13 @@
 use Rattle.std.specs.Prelude.{◌≡◌, ℕ, ◌+◌, ◌*◌, ◌^◌, ◌<◌, ◌≤◌, true, List, [], ◌∷◌, ◌++◌, length, map, All}
 use Rattle.std.specs.List.{flat_map}
 use Rattle.sst_num.specs.Spelling.{fixed}
+use Rattle.sst_num.specs.declared.block_handle.Handle.{Handle}
 use Rattle.sst_key.specs.Limits.{stored_key_limit}
 use Rattle.sst_block.specs.declared.row_form.RowForm.{RowForm}
 use Rattle.sst_block.specs.declared.row_form.RowForm.TheVariants.{Entries, Names, Index}
 use Rattle.sst_block.specs.declared.fault.BlockFault.{BlockFault}
 use Rattle.sst_block.specs.declared.fault.BlockFault.TheVariants.{BadRow, BadRestart, BadFooter, Disorder, BadKind, BadHash, BadHandle}
-use Rattle.sst_block.specs.Block.{Row, Spelled, common, row_spelling, SharesFronts, AreRestarts, AreOrdered, IsInternalKey, IsHandle, HasForm, IsRow}
+use Rattle.sst_block.specs.Block.{Row, Spelled, common, row_spelling, SharesFronts, AreRestarts, AreOrdered, IsInternalKey, HasForm, IsRow, no_handle, SayHandles, LeadsTo, LeadTo}
 use Rattle.sst_block.specs.Builder.{last_key}
 use Rattle.sst_block.specs.BlockReading.{has_tag}
 
@@ -36,6 +37,7 @@ pub record AreSound (form : RowForm) (spelled : List Spelled) : Type 0 where
   pub fronts : SharesFronts [] spelled
   pub forms : All (IsRow form) (rows_spelled spelled)
   pub ordered : AreOrdered form (rows_spelled spelled)
+  pub handles : SayHandles form no_handle spelled
 
 -- the lengths of a row are good: it shares no more with the key before than they have in common, its key isn't too
 -- long, its value's length is a number of 32 bits, and a key with a tag has the eight bytes of it
@@ -67,21 +69,22 @@ HasHandles Entries = ⊥
 HasHandles Names = ⊥
 HasHandles (Index user_key delta) = Unit {0}
 
--- after the good rows the bytes begin, at this place, with a row that has the damage. Of two damages of one row the
--- first is that of its lengths, then what the form says, then the order.
+-- after the good rows, the last of which says the handle, the bytes begin, at this place, with a row that has the damage. Of
+-- two damages of one row the first is that of its lengths, then what the form says, then the order.
 -- Own.
 -- Pinned by: first_fault_is_first, faulty_blocks, handles
-abbrev pub IsRowFault : RowForm → List Spelled → ℕ → List ℕ → BlockFault → Type 0
-IsRowFault form good at bytes (BadRow place) = (place ≡ at) × BeginsNoRow form (last_key [] (rows_spelled good)) bytes
-IsRowFault form good at bytes (BadKind place) =
+abbrev pub IsRowFault : RowForm → List Spelled → Handle → ℕ → List ℕ → BlockFault → Type 0
+IsRowFault form good handle at bytes (BadRow place) = (place ≡ at) × BeginsNoRow form (last_key [] (rows_spelled good)) bytes
+IsRowFault form good handle at bytes (BadKind place) =
     (place ≡ at) × (form ≡ Entries) × ((s : Spelled) × BeginsRow form (last_key [] (rows_spelled good)) bytes s × (IsInternalKey s.row.key → ⊥))
-IsRowFault form good at bytes (BadHandle place) =
-    (place ≡ at) × HasHandles form × ((s : Spelled) × BeginsRow form (last_key [] (rows_spelled good)) bytes s × (IsHandle s.row.value → ⊥))
-IsRowFault form good at bytes (Disorder place) =
-    (place ≡ at) × ((s : Spelled) × BeginsRow form (last_key [] (rows_spelled good)) bytes s × HasForm form s.row × (AreOrdered form (rows_spelled good ++ s.row ∷ []) → ⊥))
-IsRowFault form good at bytes (BadRestart i) = ⊥
-IsRowFault form good at bytes BadFooter = ⊥
-IsRowFault form good at bytes (BadHash place) = ⊥
+IsRowFault form good handle at bytes (BadHandle place) =
+    (place ≡ at) × HasHandles form × ((s : Spelled) × BeginsRow form (last_key [] (rows_spelled good)) bytes s)
+    × ((s : Spelled) (h : Handle) → BeginsRow form (last_key [] (rows_spelled good)) bytes s → LeadsTo form handle s h → ⊥)
+IsRowFault form good handle at bytes (Disorder place) =
+    (place ≡ at) × ((s : Spelled) × (h : Handle) × BeginsRow form (last_key [] (rows_spelled good)) bytes s × HasForm form s.row × LeadsTo form handle s h × (AreOrdered form (rows_spelled good ++ s.row ∷ []) → ⊥))
+IsRowFault form good handle at bytes (BadRestart i) = ⊥
+IsRowFault form good handle at bytes BadFooter = ⊥
+IsRowFault form good handle at bytes (BadHash place) = ⊥
 
 -- the bytes hold sound rows, and then one that has the damage; `end` is what follows the rows
 -- Own.
@@ -94,8 +97,10 @@ pub record HasFaultyRow (form : RowForm) (bytes : List ℕ) (fault : BlockFault)
   pub joined : bytes ≡ flat_map (row_spelling form) good ++ (rest ++ end)
   pub ends : length end ≡ 4 * count + 4
   pub sound : AreSound form good
+  pub handle : Handle
+  pub leads : LeadTo form no_handle good handle
   pub some : 0 < length rest
-  pub faulty : IsRowFault form good (length (flat_map (row_spelling form) good)) rest fault
+  pub faulty : IsRowFault form good handle (length (flat_map (row_spelling form) good)) rest fault
 
 -- the bytes hold sound rows alone, and then restarts of which number i is the first that breaks a rule: those before
 -- it keep them, and with what stands in its place they don't

@@ -3,9 +3,11 @@
 use Rattle.std.specs.Prelude.{◌≡◌, ℕ, ◌+◌, ◌-◌, ◌*◌, ◌==◌, ◌<◌, ◌≤◌, true, false, nat_lt, if◌then◌else◌, List, ◌∷◌, length, take, drop, Option, None, Some, slice_get}
 use Rattle.std.specs.List.{flat_map}
 use Rattle.sst_num.specs.NumberReading.{fixed_at}
+use Rattle.sst_num.specs.declared.block_handle.Handle.{Handle}
 use Rattle.sst_block.specs.declared.row_form.RowForm.{RowForm}
 use Rattle.sst_block.specs.declared.iter.BlockIter.{BlockIter}
-use Rattle.sst_block.specs.Block.{Row, Spelled, Block, SpellsLengths, row_spelling, restarts_spelling}
+use Rattle.sst_block.specs.Block.{Row, Spelled, Block, row_spelling, restarts_spelling, no_handle, LeadTo}
+use Rattle.sst_block.specs.BlockReading.{handle_after}
 
 -- where the i-th row begins in the block: behind the rows before it
 -- RocksDB: block.h, current_
@@ -22,21 +24,27 @@ pub record Shows (it : BlockIter) (form : RowForm) (s : Spelled) (more : List Sp
   pub here : it.here.now ≡ flat_map (row_spelling form) (s ∷ more)
   pub after : it.after.now ≡ flat_map (row_spelling form) more
 
+-- the walk holds the handle that the i-th row says
+-- RocksDB: block.h, IndexBlockIter::value
+-- Pinned by: handle
+abbrev pub HoldsHandle : BlockIter → RowForm → List Spelled → ℕ → Type 0
+HoldsHandle it form spelled i = LeadTo form no_handle (take (i + 1) spelled) it.handle
+
 -- where the walk stands: at the i-th row, from 0, or nowhere
 -- RocksDB: Valid
 -- Pinned by: next.moves, next.tells
 abbrev pub IsAt : BlockIter → RowForm → List Spelled → Option ℕ → Type 0
 IsAt it form spelled None = it.stands ≡ false
-IsAt it form spelled (Some i) = (s : Spelled) × (slice_get spelled i ≡ Some s) × Shows it form s (drop (i + 1) spelled)
+IsAt it form spelled (Some i) = (s : Spelled) × (slice_get spelled i ≡ Some s) × Shows it form s (drop (i + 1) spelled) × HoldsHandle it form spelled i
 
 -- the walk goes over this block, and stands at the place. Which block it is says more than its rows: how they are
 -- spelled, and which of them are restarts.
 -- Pinned by: row_start, restarts, at_restart.within
 pub record WalksIn (it : BlockIter) (form : RowForm) (bytes : List ℕ) (rows : List Row) (block : Block form bytes rows) (place : Option ℕ) : Type 0 where
+  pub form_is : it.form ≡ form
   pub rows_are : it.rows.now ≡ flat_map (row_spelling form) block.spelled
   pub places_are : it.places.now ≡ restarts_spelling block.restarts
   pub count : it.count ≡ length block.restarts
-  pub spells : SpellsLengths form
   pub is_at : IsAt it form block.spelled place
 
 -- the walk goes over the rows, and stands at the place
@@ -92,13 +100,14 @@ pub record Reaches (it : BlockIter) (left : ℕ) : Type 0 where
   pub within : j < length rows
   pub leaves : left ≡ bytes_behind form block.spelled j
 
--- a move to the row at the front of the bytes, which takes `used` of them
+-- a move to the row at the front of the bytes, which takes `used` of them; `handle` is the one before
 -- For proofs alone.
 -- Pinned by: next.moves
-pub record HasTaken (it : BlockIter) (s : Spelled) (used : ℕ) (bytes : List ℕ) : Type 0 where
+pub record HasTaken (it : BlockIter) (form : RowForm) (handle : Handle) (s : Spelled) (used : ℕ) (bytes : List ℕ) : Type 0 where
   pub stands : it.stands ≡ true
   pub key : it.key ≡ s.row.key
   pub value : it.value.now ≡ s.row.value
+  pub handle_is : it.handle ≡ handle_after form handle s.shared s.row.value
   pub here : it.here.now ≡ bytes
   pub after : it.after.now ≡ drop used bytes
 
@@ -106,6 +115,7 @@ pub record HasTaken (it : BlockIter) (s : Spelled) (used : ℕ) (bytes : List �
 -- For proofs alone.
 -- Pinned by: next.within
 pub record StaysIn (old new : BlockIter) : Type 0 where
+  pub form : new.form ≡ old.form
   pub rows : new.rows.now ≡ old.rows.now
   pub places : new.places.now ≡ old.places.now
   pub count : new.count ≡ old.count

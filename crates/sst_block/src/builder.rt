@@ -1,11 +1,17 @@
 //! The builder of a block.
-ghost use Rattle.std.specs.Prelude.{◌≡◌, ℕ, ◌<◌, ◌≤◌, ◌^◌, ◌++◌, false, List, [], ◌∷◌, length, take, IfOk, OnOk, OnErr};
+ghost use Rattle.std.specs.Prelude.{◌≡◌, ℕ, ◌<◌, ◌≤◌, ◌^◌, ◌++◌, Bool, false, List, [], ◌∷◌, length, take, IfOk, OnOk, OnErr};
 ghost use Rattle.std.specs.Result.{IsErr};
-ghost use Rattle.sst_block.specs.Block.{Row, Block, SpellsLengths, common, row_spelling};
-ghost use Rattle.sst_block.specs.Builder.{HasNoFlags, HasFailed, Holds, AwaitsRow, Takes, CanAdd};
+ghost use Rattle.sst_block.specs.Block.{Row, Block, common, value_length, row_spelling};
+ghost use Rattle.sst_block.specs.Builder as building;
+ghost use Rattle.sst_block.specs.Builder.{HasFailed, Holds, HoldsPairs, AwaitsRow, Takes, CanAdd, row_put};
 ghost use Rattle.sst_block.specs.Chosen.{block_of};
+ghost use Rattle.sst_block.specs.IndexRows.{IndexPair, IndexRows};
+ghost use Rattle.sst_num.specs.Spelling.{handle_spelling};
+ghost use Rattle.sst_num.specs.declared.block_handle.Handle as handles;
 ghost use Rattle.sst_block.specs.declared.row_form.RowForm as forms;
+ghost use Rattle.sst_block.specs.declared.row_form.RowForm.TheVariants.{Index};
 
+use crate::row::has_differences;
 use crate::row_form::RowForm;
 use sst_num::{Bytes, Memory, put_fixed32, put_varint32};
 use std::alloc::Global;
@@ -41,8 +47,7 @@ impl BlockBuilder {
     /// A builder with no row.
     ///
     /// `form` says what the rows will be, and `interval`, from 1 to 65,536, how many rows a restart begins.
-    /// `hash` asks for a hash part. For now it is false, and an index form has no delta handles. Fails where memory
-    /// runs out. RocksDB: the constructor of `BlockBuilder` in table/block_based/block_builder.cc.
+    /// `hash` asks for a hash part. For now it is false. Fails where memory runs out. RocksDB: the constructor of `BlockBuilder` in table/block_based/block_builder.cc.
     pub fn new(
         alloc: Global,
         form: RowForm,
@@ -52,8 +57,8 @@ impl BlockBuilder {
         requires least { 1 ≤ interval }
         requires most { interval ≤ 65536 }
         requires hash { hash ≡ false }
-        requires form { HasNoFlags form }
-        ensures { IfOk result (λ b. Holds b form interval []) }
+        ensures rows { IfOk result (λ b. Holds b form interval []) }
+        ensures pairs { IfOk result (λ b. (user_key delta : Bool) → form ≡ Index user_key delta → HoldsPairs b user_key delta interval []) }
     {
         let _ = hash;
         let mut restarts = Vec::new(alloc);
@@ -73,22 +78,25 @@ impl BlockBuilder {
     /// Adds a row after the others.
     ///
     /// The row has the builder's form, with a key of at most 65,544 bytes that is after the last one in the
-    /// order of the form, and the block stays below 2^29 bytes with it. `delta` is what stands in place of the
-    /// value where handles are differences; for now it is not looked at. Fails where memory runs out now or did
-    /// in an earlier call. RocksDB: `BlockBuilder::Add` in table/block_based/block_builder.cc.
+    /// order of the form, and the block stays below 2^29 bytes with it. Where handles are differences, `value` is a
+    /// handle that begins 5 bytes after the end of the one before, from the second row on, and `delta` is the signed
+    /// varint of its size less the size before; it stands in place of the value where the row shares bytes. In other
+    /// forms it isn't looked at. Fails where memory runs out now or did in an earlier call. RocksDB: `BlockBuilder::Add` in table/block_based/block_builder.cc.
     pub fn add(&mut self, key: &[u8], value: &[u8], delta: &[u8]) -> Result<(), Memory>
-        requires { CanAdd self.old (record { key = key.now; value = value.now }) }
+        requires { CanAdd self.old (record { key = key.now; value = value.now }) delta.now }
         ensures ok { OnOk result ((form : forms.RowForm) (interval : ℕ) (rows : List Row)
             → Holds self.old form interval rows
-            → Holds self.new form interval (rows ++ record { key = key.now; value = value.now } ∷ [])) }
+            → Holds self.new form interval (rows ++ row_put form interval rows (record { key = key.now; value = value.now }) delta.now ∷ [])) }
+        ensures pairs { OnOk result ((user_key differences : Bool) (interval : ℕ) (pairs : List IndexPair) (h : handles.Handle)
+            → HoldsPairs self.old user_key differences interval pairs → h.offset < 2 ^ 64 → h.size < 2 ^ 64 → value.now ≡ handle_spelling h
+            → HoldsPairs self.new user_key differences interval (pairs ++ record { separator = key.now; handle = h } ∷ [])) }
         ensures err { OnErr result (HasFailed self.new) }
         ensures later { HasFailed self.old → IsErr result }
     {
-        let _ = delta;
         if self.failed {
             return Err(Memory);
         }
-        match self.put(key, value) {
+        match self.put(key, value, delta) {
             Ok(()) => Ok(()),
             Err(error) => {
                 self.failed = true;
@@ -118,6 +126,8 @@ impl BlockBuilder {
             → Holds self form interval rows → b ≡ block_of form interval rows) }
         ensures block { IfOk result (λ b. (form : forms.RowForm) (interval : ℕ) (rows : List Row)
             → Holds self form interval rows → Block form b rows) }
+        ensures index { IfOk result (λ b. (user_key delta : Bool) (interval : ℕ) (pairs : List IndexPair)
+            → HoldsPairs self user_key delta interval pairs → IndexRows user_key delta b pairs) }
         ensures later { HasFailed self → IsErr result }
     {
         if self.failed {
@@ -130,15 +140,19 @@ impl BlockBuilder {
     }
 
     /// Puts a row after the others. Where memory runs out, a part of the row may stand there.
-    fn put(&mut self, key: &[u8], value: &[u8]) -> Result<(), Memory>
-        requires { Takes self.old (record { key = key.now; value = value.now }) }
-        ensures { OnOk result ((form : forms.RowForm) (interval : ℕ) (rows : List Row)
+    fn put(&mut self, key: &[u8], value: &[u8], delta: &[u8]) -> Result<(), Memory>
+        requires { Takes self.old (record { key = key.now; value = value.now }) delta.now }
+        ensures ok { OnOk result ((form : forms.RowForm) (interval : ℕ) (rows : List Row)
             → Holds self.old form interval rows
-            → Holds self.new form interval (rows ++ record { key = key.now; value = value.now } ∷ [])) }
+            → Holds self.new form interval (rows ++ row_put form interval rows (record { key = key.now; value = value.now }) delta.now ∷ [])) }
+        ensures pairs { OnOk result ((user_key differences : Bool) (interval : ℕ) (pairs : List IndexPair) (h : handles.Handle)
+            → HoldsPairs self.old user_key differences interval pairs → h.offset < 2 ^ 64 → h.size < 2 ^ 64 → value.now ≡ handle_spelling h
+            → HoldsPairs self.new user_key differences interval (pairs ++ record { separator = key.now; handle = h } ∷ [])) }
     {
         self.make_room()?;
         let shared = common_front(&self.last, key);
-        put_row(&mut self.bytes, shared, key, value)?;
+        let stored = value_put(self.form, shared, value, delta);
+        put_row(&mut self.bytes, self.form, shared, key, stored)?;
         keep_key(&mut self.last, shared, key)?;
         self.since += 1;
         Ok(())
@@ -176,18 +190,45 @@ pub fn common_front(a: &[u8], b: &[u8]) -> usize
     end
 }
 
-/// Appends a row, of a form whose rows spell the length of their value: three lengths, the rest of the key, and the value.
-fn put_row(bytes: &mut Vec<u8>, shared: usize, key: &[u8], value: &[u8]) -> Result<(), Memory>
+/// What stands in the block for a value: in its place the difference, where handles are differences and the row shares bytes.
+fn value_put<'v>(form: RowForm, shared: usize, value: &'v [u8], delta: &'v [u8]) -> &'v [u8]
+    ensures { result.now ≡ building.value_put form shared value.now delta.now }
+{
+    if !has_differences(form) {
+        return value;
+    }
+    if shared == 0 { value } else { delta }
+}
+
+/// Appends the length of a value, if the rows of the form spell it.
+fn put_value_length(bytes: &mut Vec<u8>, form: RowForm, length: usize) -> Result<(), Memory>
+    requires { length < 2 ^ 32 }
+    ensures { OnOk result (bytes.new.items ≡ bytes.old.items ++ value_length form length) }
+{
+    if has_differences(form) {
+        return Ok(());
+    }
+    put_varint32(bytes, length as u32)
+}
+
+/// Appends a row: the lengths that its form spells, the rest of the key, and the value.
+fn put_row(
+    bytes: &mut Vec<u8>,
+    form: RowForm,
+    shared: usize,
+    key: &[u8],
+    value: &[u8],
+) -> Result<(), Memory>
     requires front { shared ≤ length key.now }
     requires key { length key.now < 2 ^ 32 }
     requires value { length value.now < 2 ^ 32 }
-    ensures { OnOk result ((form : forms.RowForm) → SpellsLengths form → bytes.new.items
+    ensures { OnOk result (bytes.new.items
         ≡ bytes.old.items ++ row_spelling form (record { shared = shared; row = record { key = key.now; value = value.now } })) }
 {
     let (_, rest) = key.split_at(shared);
     put_varint32(bytes, shared as u32)?;
     put_varint32(bytes, rest.len() as u32)?;
-    put_varint32(bytes, value.len() as u32)?;
+    put_value_length(bytes, form, value.len())?;
     bytes.extend_from_slice(rest)?;
     bytes.extend_from_slice(value)?;
     Ok(())

@@ -3,14 +3,13 @@ ghost use Rattle.std.specs.Prelude.{◌≡◌, ℕ, ◌+◌, ◌*◌, ◌<◌, �
 ghost use Rattle.sst_block.specs.Block.{Row, Block};
 ghost use Rattle.sst_block.specs.FirstFault.{IsFirstFault};
 ghost use Rattle.sst_block.specs.declared.fault.BlockFault as faults;
-ghost use Rattle.sst_block.specs.Builder.{HasNoFlags};
 ghost use Rattle.sst_block.specs.BlockReading as reading;
 ghost use Rattle.sst_block.specs.BlockReading.{Gives, block_read, parts_read, then_read, with_restarts, rows_read, rows_end};
 ghost use Rattle.sst_block.specs.Restarts as restarts;
 ghost use Rattle.sst_block.specs.Restarts.{Open, met, met_by, open_of, rows_counted};
 
 use crate::fault::BlockFault;
-use crate::row::{read_row, split_row};
+use crate::row::{NO_HANDLE, handle_after, read_row, split_row};
 use crate::row_form::RowForm;
 use sst_key::KeyRoom;
 use sst_num::{Refused, fixed32};
@@ -130,17 +129,18 @@ fn check_rows(
     requires short { length rows.now ≤ 2 ^ 29 }
     requires whole { 4 * restarts.missing ≤ length restarts.left.now }
     requires none { key ≡ [] }
-    requires form { HasNoFlags form }
     ensures { result ≡ rows_counted form (open_of restarts.entry) rows.now }
 {
     let mut left = rows;
     let mut at: u32 = 0;
     let mut count: u32 = 0;
     let mut first = true;
+    let mut handle = NO_HANDLE;
     while !left.is_empty() {
-        let l = read_row(form, at, first, &mut key, &mut tail, left)?;
+        let l = read_row(form, at, first, handle, &mut key, &mut tail, left)?;
         meet_row(&mut restarts, l.shared, at);
         let row = split_row(left, l);
+        handle = handle_after(form, handle, l.shared, row.value);
         at += (left.len() - row.after.len()) as u32;
         left = row.after;
         count += 1;
@@ -163,7 +163,6 @@ fn check_parts(
     requires some { 0 < count }
     requires whole { 4 * count ≤ length places.now }
     requires none { key ≡ [] }
-    requires form { HasNoFlags form }
     ensures { Gives result (then_read (rows_read form rows.now) (with_restarts form count places.now)) }
 {
     let (_, left) = places.split_at(NUMBER_LENGTH);
@@ -189,7 +188,6 @@ fn check_parts(
 #[tactic(auto, unfolding(crate::specs::BlockReading::block_read))]
 fn count_rows(alloc: Global, block: &[u8], form: RowForm) -> Result<u32, Refused<BlockFault>>
     requires short { length block.now ≤ 2 ^ 29 }
-    requires form { HasNoFlags form }
     ensures { Gives result (block_read form block.now) }
 {
     let Some(count) = restart_count(block) else {
@@ -203,8 +201,7 @@ fn count_rows(alloc: Global, block: &[u8], form: RowForm) -> Result<u32, Refused
 
 /// Checks a block of rows of the form, and answers how many rows it has.
 ///
-/// The block has at most 2^29 bytes, and for now an index form has no delta handles. Ok comes
-/// exactly where the bytes stand for rows in the sense of `Block` (specs/Block.antt), and otherwise the first fault
+/// The block has at most 2^29 bytes. Ok comes exactly where the bytes stand for rows in the sense of `Block` (specs/Block.antt), and otherwise the first fault
 /// that is there: that of the footer, then of the rows, one by one, then of the restarts, one by one. Of one row the
 /// lengths come first, then that the key has a tag, then its kind or the handle that is its value, then its order. The
 /// block may share less than it could, and may have restarts at any rows that share nothing.
@@ -214,7 +211,6 @@ fn count_rows(alloc: Global, block: &[u8], form: RowForm) -> Result<u32, Refused
 /// `DataBlockIter` in table/block_based/block.cc, which check less.
 pub fn check_block(alloc: Global, block: &[u8], form: RowForm) -> Result<u32, Refused<BlockFault>>
     requires short { length block.now ≤ 2 ^ 29 }
-    requires form { HasNoFlags form }
     ensures accepts { IfOk result (λ n. (rows : List Row) × Block form block.now rows × (length rows ≡ n)) }
     ensures refuses { (fault : faults.BlockFault) → result ≡ Err (Refused.Cause fault)
         → IsFirstFault form block.now fault × ((rows : List Row) → Block form block.now rows → ⊥) }

@@ -1,15 +1,18 @@
 //! The walk over the rows of a block.
-ghost use Rattle.std.specs.Prelude.{◌≡◌, ℕ, ◌+◌, ◌-◌, ◌*◌, ◌<◌, ◌≤◌, nat_lt, true, false, List, [], length, drop, Option, None, Some, slice_get};
+ghost use Rattle.std.specs.Prelude.{◌≡◌, ◌⊎◌, ℕ, ◌+◌, ◌-◌, ◌*◌, ◌<◌, ◌≤◌, nat_lt, Bool, true, false, List, [], length, drop, Option, None, Some, slice_get, option_and_then};
 ghost use Rattle.sst_block.specs.declared.row_form.RowForm as forms;
-ghost use Rattle.sst_block.specs.Block.{Row, Spelled, Block, SpellsLengths};
+ghost use Rattle.sst_block.specs.Block.{Row, Spelled, Block, no_handle};
+ghost use Rattle.sst_block.specs.declared.row_form.RowForm.TheVariants.{Index};
 ghost use Rattle.sst_block.specs.BlockReading.{row_at};
+ghost use Rattle.sst_block.specs.IndexRows.{IndexPair, SayPairs};
+ghost use Rattle.sst_block.specs.Seek.{CanSeek, IsTarget, MayBegin, is_before, rows_before};
 ghost use Rattle.sst_block.specs.Iter.{Walks, WalksIn, HasTaken, StaysIn, Reaches, BeginsBefore, place_of, place_before, start_of, restart_at, bytes_behind};
 
 use crate::check::{NUMBER_LENGTH, split_whole};
-use crate::row::{row_lengths, split_row};
+use crate::row::{NO_HANDLE, handle_after, key_cmp, row_lengths, split_row};
 use crate::row_form::RowForm;
 use sst_key::KeyRoom;
-use sst_num::fixed32;
+use sst_num::{Handle, fixed32};
 
 /// A walk over the rows of a block that was checked. It stands at a row or nowhere.
 ///
@@ -18,6 +21,8 @@ use sst_num::fixed32;
 /// table/block_based/block.h.
 #[derive(Drop)]
 pub struct BlockIter<'b> {
+    /// What the rows are.
+    form: RowForm,
     /// The rows of the block.
     rows: &'b [u8],
     /// The restarts, four bytes each, and what follows them.
@@ -32,6 +37,8 @@ pub struct BlockIter<'b> {
     value: &'b [u8],
     /// The key of the row where it stands.
     key: KeyRoom,
+    /// In an index, the handle that the row says where it stands.
+    handle: Handle,
     /// It stands at a row.
     stands: bool,
 }
@@ -43,12 +50,12 @@ impl<'b> BlockIter<'b> {
     pub fn start(block: &'b [u8], form: RowForm, room: KeyRoom) -> BlockIter<'b>
         requires { (rows : List Row) × Block form block.now rows }
         ensures walks { (rows : List Row) → Block form block.now rows → Walks result rows None }
-        ensures within { SpellsLengths form → (rows : List Row) (b : Block form block.now rows) → WalksIn result form block.now rows b None }
+        ensures within { (rows : List Row) (b : Block form block.now rows) → WalksIn result form block.now rows b None }
     {
-        let _ = form;
         let parts = split_whole(block);
         let rows = parts.rows;
         BlockIter {
+            form,
             rows,
             places: parts.places,
             count: parts.count,
@@ -56,6 +63,7 @@ impl<'b> BlockIter<'b> {
             after: rows,
             value: rows,
             key: room,
+            handle: NO_HANDLE,
             stands: false,
         }
     }
@@ -70,6 +78,7 @@ impl<'b> BlockIter<'b> {
     {
         self.after = self.rows;
         self.key.set(0, &[]);
+        self.handle = NO_HANDLE;
         self.step()
     }
 
@@ -102,6 +111,18 @@ impl<'b> BlockIter<'b> {
         self.value
     }
 
+    /// The handle of the row where it stands, of an index block: whole, also where the row has the difference from the one
+    /// before. RocksDB: `IndexBlockIter::value` in table/block_based/block.h.
+    pub fn handle(&self) -> Handle
+        requires { (user_key delta : Bool) × (bytes : List ℕ) × (rows : List Row) × (b : Block (Index user_key delta) bytes rows) × (i : ℕ)
+            × WalksIn self.now (Index user_key delta) bytes rows b (Some i) }
+        ensures { (user_key delta : Bool) (bytes : List ℕ) (rows : List Row) (b : Block (Index user_key delta) bytes rows) (i : ℕ) (pairs : List IndexPair)
+            → WalksIn self.now (Index user_key delta) bytes rows b (Some i) → SayPairs delta no_handle b.spelled pairs
+            → (pair : IndexPair) × (slice_get pairs i ≡ Some pair) × (result ≡ pair.handle) }
+    {
+        self.handle
+    }
+
     /// Where the row begins in the block where it stands.
     pub fn row_start(&self) -> u32
         requires { (rows : List Row) × (i : ℕ) × Walks self.now rows (Some i) }
@@ -126,7 +147,7 @@ impl<'b> BlockIter<'b> {
             × WalksIn self.old form bytes rows b place × (i < length b.restarts) }
         ensures within { (form : forms.RowForm) (bytes : List ℕ) (rows : List Row) (b : Block form bytes rows) (place : Option ℕ)
             → WalksIn self.old form bytes rows b place → i < length b.restarts
-            → (k : ℕ) × (slice_get b.restarts i ≡ Some (start_of form b.spelled k)) × WalksIn self.new form bytes rows b (place_of rows k) × (result ≡ nat_lt k (length rows)) }
+            → (k : ℕ) × (slice_get b.restarts i ≡ Some (start_of form b.spelled k)) × WalksIn self.new form bytes rows b (place_of rows k) × (result ≡ nat_lt k (length rows)) × ((k ≡ 0) ⊎ (k < length rows)) }
         ensures tells { (form : forms.RowForm) (bytes : List ℕ) (rows : List Row) (b : Block form bytes rows) (place : Option ℕ)
             → WalksIn self.old form bytes rows b place → i < length b.restarts → result ≡ nat_lt 0 (length rows) }
     {
@@ -173,6 +194,92 @@ impl<'b> BlockIter<'b> {
         true
     }
 
+    /// Goes to the first row whose key isn't before the target, in the order of the form. True exactly where there is one; else it
+    /// stands nowhere.
+    ///
+    /// Where the keys of the form have a tag, the target has at least eight bytes. The restarts are halved, and the walk goes
+    /// forward from the last one whose row is before the target: it decodes the rows of one restart, and one row for each
+    /// halving. RocksDB: `Seek` of `DataBlockIter` and `IndexBlockIter`, and `BinarySeek`, in table/block_based/block.cc.
+    pub fn seek(&mut self, target: &[u8]) -> bool
+        requires { CanSeek self.old target.now }
+        ensures within { (form : forms.RowForm) (bytes : List ℕ) (rows : List Row) (b : Block form bytes rows) (place : Option ℕ)
+            → WalksIn self.old form bytes rows b place → IsTarget form target.now
+            → WalksIn self.new form bytes rows b (place_of rows (rows_before form target.now rows)) }
+        ensures tells { (form : forms.RowForm) (bytes : List ℕ) (rows : List Row) (b : Block form bytes rows) (place : Option ℕ)
+            → WalksIn self.old form bytes rows b place → IsTarget form target.now
+            → result ≡ nat_lt (rows_before form target.now rows) (length rows) }
+    {
+        let i = self.restart_for(target);
+        self.at_restart(i);
+        self.forward_to(target)
+    }
+
+    /// The number of a restart before whose row all rows are before the target: the last such one that halving meets, or the
+    /// first of all. The walk is moved.
+    fn restart_for(&mut self, target: &[u8]) -> u32
+        requires { CanSeek self.old target.now }
+        ensures { (form : forms.RowForm) (bytes : List ℕ) (rows : List Row) (b : Block form bytes rows) (place : Option ℕ)
+            → WalksIn self.old form bytes rows b place → IsTarget form target.now
+            → (result < length b.restarts) × MayBegin form target.now b result
+            × ((next : Option ℕ) × WalksIn self.new form bytes rows b next) }
+    {
+        let mut low = 0;
+        let mut high = self.count;
+        while high - low > 1 {
+            let middle = low + (high - low) / 2;
+            if self.begins_before(middle, target) {
+                low = middle;
+            } else {
+                high = middle;
+            }
+        }
+        low
+    }
+
+    /// Goes to the row that begins at the restart of this number, and answers whether its key is before the target.
+    fn begins_before(&mut self, i: u32, target: &[u8]) -> bool
+        requires seeks { CanSeek self.old target.now }
+        requires restart { i < self.old.count }
+        ensures { (form : forms.RowForm) (bytes : List ℕ) (rows : List Row) (b : Block form bytes rows) (place : Option ℕ)
+            → WalksIn self.old form bytes rows b place → IsTarget form target.now
+            → (k : ℕ) × (slice_get b.restarts i ≡ Some (start_of form b.spelled k)) × WalksIn self.new form bytes rows b (place_of rows k)
+            × (result ≡ is_before form target.now (slice_get rows k)) × ((k ≡ 0) ⊎ (k < length rows)) }
+    {
+        self.at_restart(i);
+        self.is_before(target)
+    }
+
+    /// Goes forward to the first row whose key isn't before the target, as are those of all rows that it has passed. It may stand
+    /// there, or nowhere. True exactly where there is one.
+    fn forward_to(&mut self, target: &[u8]) -> bool
+        requires { (form : forms.RowForm) × (bytes : List ℕ) × (rows : List Row) × (b : Block form bytes rows) × (k : ℕ)
+            × WalksIn self.old form bytes rows b (place_of rows k) × (k ≤ rows_before form target.now rows) × IsTarget form target.now }
+        ensures { (form : forms.RowForm) (bytes : List ℕ) (rows : List Row) (b : Block form bytes rows) (k : ℕ)
+            → WalksIn self.old form bytes rows b (place_of rows k) → k ≤ rows_before form target.now rows → IsTarget form target.now
+            → WalksIn self.new form bytes rows b (place_of rows (rows_before form target.now rows))
+            × (result ≡ nat_lt (rows_before form target.now rows) (length rows)) }
+    {
+        while self.is_before(target) {
+            if !self.step() {
+                return false;
+            }
+        }
+        self.stands
+    }
+
+    /// It stands at a row whose key is before the target.
+    fn is_before(&self, target: &[u8]) -> bool
+        requires { CanSeek self.now target.now }
+        ensures { (form : forms.RowForm) (bytes : List ℕ) (rows : List Row) (b : Block form bytes rows) (place : Option ℕ)
+            → WalksIn self.now form bytes rows b place → IsTarget form target.now
+            → result ≡ is_before form target.now (option_and_then (slice_get rows) place) }
+    {
+        if !self.stands {
+            return false;
+        }
+        key_cmp(self.form, self.key.bytes(), target).is_lt()
+    }
+
     /// The number of the last restart that is before the place, which isn't the first of all.
     fn restart_before(&self, place: usize) -> u32
         requires some { 0 < self.now.count }
@@ -205,14 +312,15 @@ impl<'b> BlockIter<'b> {
     /// Goes to the row that begins at this place and shares nothing, if there is one.
     fn go_to(&mut self, start: usize) -> bool
         requires { start ≤ length self.old.rows.now }
-        ensures none { row_at [] (drop start self.old.rows.now) ≡ None → (result ≡ false) × (self.new.stands ≡ false) }
-        ensures some { (s : Spelled) (used : ℕ) → row_at [] (drop start self.old.rows.now) ≡ Some (s, used)
-            → (result ≡ true) × HasTaken self.new s used (drop start self.old.rows.now) }
+        ensures none { row_at self.old.form no_handle [] (drop start self.old.rows.now) ≡ None → (result ≡ false) × (self.new.stands ≡ false) }
+        ensures some { (s : Spelled) (used : ℕ) → row_at self.old.form no_handle [] (drop start self.old.rows.now) ≡ Some (s, used)
+            → (result ≡ true) × HasTaken self.new self.old.form no_handle s used (drop start self.old.rows.now) }
         ensures stays { StaysIn self.old self.new }
     {
         let (_, from) = self.rows.split_at(start);
         self.after = from;
         self.key.set(0, &[]);
+        self.handle = NO_HANDLE;
         self.step()
     }
 
@@ -230,12 +338,12 @@ impl<'b> BlockIter<'b> {
 
     /// Goes to the row that comes after, if there is one.
     fn step(&mut self) -> bool
-        ensures none { row_at self.old.key self.old.after.now ≡ None → (result ≡ false) × (self.new.stands ≡ false) }
-        ensures some { (s : Spelled) (used : ℕ) → row_at self.old.key self.old.after.now ≡ Some (s, used)
-            → (result ≡ true) × HasTaken self.new s used self.old.after.now }
+        ensures none { row_at self.old.form self.old.handle self.old.key self.old.after.now ≡ None → (result ≡ false) × (self.new.stands ≡ false) }
+        ensures some { (s : Spelled) (used : ℕ) → row_at self.old.form self.old.handle self.old.key self.old.after.now ≡ Some (s, used)
+            → (result ≡ true) × HasTaken self.new self.old.form self.old.handle s used self.old.after.now }
         ensures stays { StaysIn self.old self.new }
     {
-        match row_lengths(self.key.bytes(), self.after) {
+        match row_lengths(self.form, self.handle, self.key.bytes(), self.after) {
             None => {
                 self.stands = false;
                 false
@@ -243,6 +351,7 @@ impl<'b> BlockIter<'b> {
             Some(l) => {
                 let row = split_row(self.after, l);
                 self.key.set(l.shared, row.rest);
+                self.handle = handle_after(self.form, self.handle, l.shared, row.value);
                 self.value = row.value;
                 self.here = self.after;
                 self.after = row.after;

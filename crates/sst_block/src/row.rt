@@ -2,17 +2,23 @@
 ghost use Rattle.std.specs.Prelude.{◌≡◌, ◌⊎◌, ℕ, ◌+◌, ◌<◌, ◌≤◌, ◌^◌, true, false, not, ◌&&◌, nat_lt, if◌then◌else◌, List, [], ◌++◌, length, take, drop, None, Some, IfSome, IfNone, IfOk, IfErr, Ok, Err, option_map};
 ghost use Rattle.sst_block.specs.Block as blocks;
 ghost use Rattle.sst_block.specs.BlockReading as reading;
-ghost use Rattle.sst_block.specs.BlockReading.{then_read, lengths_at, row_at, or_fault, row_read};
+ghost use Rattle.sst_block.specs.BlockReading.{then_read, lengths_at, row_at, or_fault, row_read, said_at, value_length_at};
 ghost use Rattle.sst_block.specs.declared.fault.BlockFault.TheVariants.{Disorder};
 ghost use Rattle.sst_block.specs.Rows.{numbers, spelled_lengths, key_held, row_lent, FitsIn, IsLongEnough, row_length};
 
 use crate::fault::BlockFault;
 use crate::row_form::RowForm;
 use sst_key::{KeyRoom, LONGEST_KEY, TAG_LENGTH, cmp_internal, unpack};
-use sst_num::{take_handle, take_varint32};
+use sst_num::{Handle, take_handle, take_signed64, take_varint32};
 use std::cmp::Ordering;
 
-/// The three lengths that a row begins with, and how many bytes they take.
+/// How long the trailer of a block is, which stands between a block and the next.
+const TRAILER_LENGTH: u64 = 5;
+
+/// The handle of no block, which is before the first. RocksDB: `BlockHandle::NullBlockHandle` in table/format.h.
+pub const NO_HANDLE: Handle = Handle { offset: 0, size: 0 };
+
+/// The lengths that a row begins with, and how many bytes they take.
 #[derive(Clone, Copy)]
 pub struct Lengths {
     /// How many bytes the key shares with the key before.
@@ -21,25 +27,143 @@ pub struct Lengths {
     pub rest: usize,
     /// How many bytes the value has.
     pub value: usize,
-    /// How many bytes these three lengths take.
+    /// How many bytes these lengths take.
     pub used: usize,
 }
 
-/// Reads the lengths of the row at the front. RocksDB: `DecodeEntry` in table/block_based/block.cc.
+/// The handle that begins behind the block and trailer of the one before, and whose size differs so much from that one's.
+/// None where a number isn't of 64 bits. RocksDB: `IndexValue::DecodeFrom` in table/format.cc.
+fn handle_by(before: Handle, difference: i64) -> Option<Handle>
+    ensures { result ≡ reading.handle_by before difference }
+{
+    let offset = before
+        .offset
+        .checked_add(before.size)?
+        .checked_add(TRAILER_LENGTH)?;
+    let size = before.size.checked_add_signed(difference)?;
+    Some(Handle { offset, size })
+}
+
+/// Reads the handle that is said at the front, in a row that shares so many bytes, and how many bytes it takes. `before` is
+/// the handle of the row before. RocksDB: `DecodeCurrentValue` in table/block_based/block.cc.
+fn take_said(delta: bool, shared: usize, before: Handle, bytes: &[u8]) -> Option<(Handle, usize)>
+    ensures exact { result ≡ said_at delta shared before bytes.now }
+    ensures within { IfSome result (λ f. f.1 < 2 ^ 32) }
+{
+    if !delta {
+        return take_handle(bytes);
+    }
+    if shared == 0 {
+        return take_handle(bytes);
+    }
+    let (difference, used) = take_signed64(bytes)?;
+    let handle = handle_by(before, difference)?;
+    Some((handle, used))
+}
+
+/// The handle that a value says, and nothing else.
+fn handle_said(delta: bool, shared: usize, before: Handle, value: &[u8]) -> Option<Handle>
+    ensures { result ≡ reading.handle_said delta shared before value.now }
+{
+    let (handle, used) = take_said(delta, shared, before, value)?;
+    if used == value.len() {
+        Some(handle)
+    } else {
+        None
+    }
+}
+
+/// The handle behind a row that shares so many bytes and has this value: in an index the one that it says, else still the
+/// one before.
+pub fn handle_after(form: RowForm, before: Handle, shared: usize, value: &[u8]) -> Handle
+    ensures { result ≡ reading.handle_after form before shared value.now }
+{
+    match form {
+        RowForm::Entries => before,
+        RowForm::Names => before,
+        RowForm::Index { delta, .. } => match handle_said(delta, shared, before, value) {
+            Some(handle) => handle,
+            None => before,
+        },
+    }
+}
+
+/// The handles of the form are differences from the one before.
+pub fn has_differences(form: RowForm) -> bool
+    ensures { result ≡ blocks.has_differences form }
+{
+    match form {
+        RowForm::Entries => false,
+        RowForm::Names => false,
+        RowForm::Index { delta, .. } => delta,
+    }
+}
+
+/// The bytes behind the first so many, or none where there are fewer.
+fn bytes_behind(bytes: &[u8], place: usize) -> &[u8]
+    ensures { result.now ≡ drop place bytes.now }
+{
+    if place < bytes.len() {
+        let (_, behind) = bytes.split_at(place);
+        behind
+    } else {
+        &[]
+    }
+}
+
+/// The length of the value that a handle takes at the front, or 0 where none is said there.
+fn said_length(shared: usize, before: Handle, bytes: &[u8]) -> usize
+    ensures exact { result ≡ reading.taken (said_at true shared before bytes.now) }
+    ensures within { result < 2 ^ 32 }
+{
+    match take_said(true, shared, before, bytes) {
+        Some((_, used)) => used,
+        None => 0,
+    }
+}
+
+/// Reads the length of the value of a row that shares so many bytes: the length, and how many bytes it takes at the front. Where
+/// handles are differences it takes none, and the value stands behind the `rest` bytes of the key. RocksDB: `DecodeKeyV4`
+/// in table/block_based/block.cc.
+fn take_value_length(
+    form: RowForm,
+    before: Handle,
+    shared: usize,
+    rest: usize,
+    bytes: &[u8],
+) -> Option<(usize, usize)>
+    ensures exact { result ≡ value_length_at form before shared rest bytes.now }
+    ensures within { IfSome result (λ f. (f.0 < 2 ^ 32) × (f.1 ≤ length bytes.now)) }
+{
+    if has_differences(form) {
+        return Some((said_length(shared, before, bytes_behind(bytes, rest)), 0));
+    }
+    let (value, used) = take_varint32(bytes)?;
+    Some((value as usize, used))
+}
+
+/// Reads the lengths of the row at the front. `handle` is that of the row before. RocksDB: `DecodeEntry` in
+/// table/block_based/block.cc.
 #[tactic(auto, unfolding(crate::specs::BlockReading::lengths_at))]
-fn take_lengths(bytes: &[u8]) -> Option<Lengths>
-    ensures exact { spelled_lengths result ≡ lengths_at bytes.now }
+fn take_lengths(form: RowForm, handle: Handle, bytes: &[u8]) -> Option<Lengths>
+    ensures exact { spelled_lengths result ≡ lengths_at form handle bytes.now }
     ensures within { IfSome result (λ l. (l.shared < 2 ^ 32) × (l.rest < 2 ^ 32) × (l.value < 2 ^ 32) × (0 < l.used) × (l.used ≤ length bytes.now)) }
 {
     let (shared, shared_used) = take_varint32(bytes)?;
     let (_, after_shared) = bytes.split_at(shared_used);
     let (rest, rest_used) = take_varint32(after_shared)?;
     let (_, after_rest) = after_shared.split_at(rest_used);
-    let (value, value_used) = take_varint32(after_rest)?;
+    let (value, value_used) = take_value_length(
+        form,
+        handle,
+        shared as usize,
+        rest as usize,
+        after_rest,
+    )?;
     Some(Lengths {
         shared: shared as usize,
         rest: rest as usize,
-        value: value as usize,
+        value,
         used: shared_used + rest_used + value_used,
     })
 }
@@ -49,16 +173,6 @@ fn is_internal_key(key: &[u8]) -> bool
     ensures { result ≡ reading.is_internal_key key.now }
 {
     unpack(key).is_some()
-}
-
-/// The value is a block handle and nothing else.
-fn is_handle(value: &[u8]) -> bool
-    ensures { result ≡ reading.is_handle value.now }
-{
-    match take_handle(value) {
-        Some((_, used)) => used == value.len(),
-        None => false,
-    }
 }
 
 /// The keys of the form end with a tag.
@@ -72,13 +186,14 @@ fn has_tag(form: RowForm) -> bool
     }
 }
 
-/// The lengths of the row at the front, if they agree with the key before and the bytes that are there.
+/// The lengths of the row at the front, if they agree with the key before and the bytes that are there. `handle` is that of
+/// the row before.
 #[tactic(auto, unfolding(crate::specs::BlockReading::row_at))]
-pub fn row_lengths(before: &[u8], bytes: &[u8]) -> Option<Lengths>
-    ensures exact { option_map (row_lent before.now bytes.now) result ≡ row_at before.now bytes.now }
+pub fn row_lengths(form: RowForm, handle: Handle, before: &[u8], bytes: &[u8]) -> Option<Lengths>
+    ensures exact { option_map (row_lent before.now bytes.now) result ≡ row_at form handle before.now bytes.now }
     ensures within { IfSome result (λ l. FitsIn (length before.now) (length bytes.now) l) }
 {
-    let l = take_lengths(bytes)?;
+    let l = take_lengths(form, handle, bytes)?;
     let fits = l.used + l.rest + l.value <= bytes.len();
     if l.shared <= before.len() && fits && l.shared + l.rest <= LONGEST_KEY {
         Some(l)
@@ -87,9 +202,17 @@ pub fn row_lengths(before: &[u8], bytes: &[u8]) -> Option<Lengths>
     }
 }
 
-/// What the form says of a row's value and of the kind in its key. `at` is where the row begins.
-fn form_fault(form: RowForm, at: u32, key: &[u8], value: &[u8]) -> Option<BlockFault>
-    ensures { result ≡ reading.form_fault form at (record { key = key.now; value = value.now }) }
+/// What the form says of a row's value and of the kind in its key. `at` is where the row begins, and `handle` that of the
+/// row before.
+fn form_fault(
+    form: RowForm,
+    at: u32,
+    handle: Handle,
+    shared: usize,
+    key: &[u8],
+    value: &[u8],
+) -> Option<BlockFault>
+    ensures { result ≡ reading.form_fault form at handle (record { shared = shared; row = record { key = key.now; value = value.now } }) }
 {
     match form {
         RowForm::Entries => {
@@ -100,18 +223,15 @@ fn form_fault(form: RowForm, at: u32, key: &[u8], value: &[u8]) -> Option<BlockF
             }
         }
         RowForm::Names => None,
-        RowForm::Index { .. } => {
-            if is_handle(value) {
-                None
-            } else {
-                Some(BlockFault::BadHandle(at))
-            }
-        }
+        RowForm::Index { delta, .. } => match handle_said(delta, shared, handle, value) {
+            Some(_) => None,
+            None => Some(BlockFault::BadHandle(at)),
+        },
     }
 }
 
 /// The order of the keys of a block: of stored keys, or bytewise.
-fn key_cmp(form: RowForm, a: &[u8], b: &[u8]) -> Ordering
+pub fn key_cmp(form: RowForm, a: &[u8], b: &[u8]) -> Ordering
     requires first { IsLongEnough form a.now }
     requires second { IsLongEnough form b.now }
     ensures { result ≡ blocks.key_cmp form a.now b.now }
@@ -131,11 +251,19 @@ fn key_cmp(form: RowForm, a: &[u8], b: &[u8]) -> Ordering
 
 /// The first fault of a row whose lengths are good: what the form says comes first, then the order. `after` says whether
 /// its key is after the one before.
-fn fault_of_row(form: RowForm, at: u32, after: bool, key: &[u8], value: &[u8]) -> Option<BlockFault>
-    ensures { result ≡ or_fault (reading.form_fault form at (record { key = key.now; value = value.now }))
+fn fault_of_row(
+    form: RowForm,
+    at: u32,
+    handle: Handle,
+    after: bool,
+    shared: usize,
+    key: &[u8],
+    value: &[u8],
+) -> Option<BlockFault>
+    ensures { result ≡ or_fault (reading.form_fault form at handle (record { shared = shared; row = record { key = key.now; value = value.now } }))
         (if after then None else Some (Disorder at)) }
 {
-    match form_fault(form, at, key, value) {
+    match form_fault(form, at, handle, shared, key, value) {
         Some(fault) => Some(fault),
         None => {
             if after {
@@ -235,12 +363,13 @@ fn has_room_for_tag(form: RowForm, length: usize) -> bool
 }
 
 /// Reads the row at the front. `key` holds the key before, or none where the row is the first, and then the row's own. `at`
-/// is where the row begins, and `tail` is room in which the order is looked at.
+/// is where the row begins, `handle` that of the row before, and `tail` is room in which the order is looked at.
 #[tactic(auto, unfolding(crate::specs::BlockReading::row_read))]
 pub fn read_row(
     form: RowForm,
     at: u32,
     first: bool,
+    handle: Handle,
     key: &mut KeyRoom,
     tail: &mut KeyRoom,
     bytes: &[u8],
@@ -248,12 +377,12 @@ pub fn read_row(
     requires short { length key.old ≤ 65544 }
     requires before { first ≡ false → IsLongEnough form key.old }
     requires none { first ≡ true → key.old ≡ [] }
-    ensures exact { then_read result (λ l. Ok (row_lent key.old bytes.now l)) ≡ row_read form at (key_held first key.old) bytes.now }
+    ensures exact { then_read result (λ l. Ok (row_lent key.old bytes.now l)) ≡ row_read form at (record { key = key_held first key.old; handle = handle }) bytes.now }
     ensures within { IfOk result (λ l. FitsIn (length key.old) (length bytes.now) l) }
     ensures key { IfOk result (λ l. key.new ≡ (row_lent key.old bytes.now l).0.row.key) }
     ensures long { IfOk result (λ l. IsLongEnough form key.new) }
 {
-    let Some(l) = row_lengths(key.bytes(), bytes) else {
+    let Some(l) = row_lengths(form, handle, key.bytes(), bytes) else {
         return Err(BlockFault::BadRow(at));
     };
     if !has_room_for_tag(form, l.shared + l.rest) {
@@ -261,7 +390,7 @@ pub fn read_row(
     }
     let row = split_row(bytes, l);
     let after = change_key(form, first, key, tail, l.shared, row.rest);
-    match fault_of_row(form, at, after, key.bytes(), row.value) {
+    match fault_of_row(form, at, handle, after, l.shared, key.bytes(), row.value) {
         Some(fault) => Err(fault),
         None => Ok(l),
     }

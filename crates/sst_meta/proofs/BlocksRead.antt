@@ -4,7 +4,6 @@ use Rattle.sst_num.specs.declared.block_handle.Handle.{Handle}
 use Rattle.sst_block.specs.declared.row_form.RowForm.{RowForm}
 use Rattle.sst_block.specs.declared.fault.BlockFault.{BlockFault}
 use Rattle.sst_block.specs.Block.{Row, Block}
-use Rattle.sst_block.specs.Builder.{HasNoFlags}
 use Rattle.sst_block.specs.BlockReading.{block_read}
 use Rattle.sst_block.specs.FirstFault.{IsFirstFault}
 use Rattle.sst_block.proofs.BlockRead.{read-complete, read-sound}
@@ -33,15 +32,15 @@ framed-short file end h bytes framed =
 
 -- they are read
 pub block_at-rows : {F : Type 0} (frame : FrameFault → F) (block : BlockFault → F) (form : RowForm) (file : List ℕ) (end : ℕ) (h : Handle) (rows : List Row)
-    → HasNoFlags form → RowsAt form file end h rows → block_at frame block form file end h ≡ Ok rows
-block_at-rows frame block form file end h rows plain at =
-    let reads = read-complete form at.bytes rows plain at.block in
+    → RowsAt form file end h rows → block_at frame block form file end h ≡ Ok rows
+block_at-rows frame block form file end h rows at =
+    let reads = read-complete form at.bytes rows at.block in
     rw (frame_read-framed file end h at.bytes at.framed, reads.reads) (ap Ok reads.are_rows)
 
 -- rows that are read are they
 pub block_at-found : {F : Type 0} (frame : FrameFault → F) (block : BlockFault → F) (form : RowForm) (file : List ℕ) (end : ℕ) (h : Handle) (rows : List Row)
-    → HasNoFlags form → block_at frame block form file end h ≡ Ok rows → RowsAt form file end h rows
-block_at-found frame block form file end h rows plain e =
+    → block_at frame block form file end h ≡ Ok rows → RowsAt form file end h rows
+block_at-found frame block form file end h rows e =
     then_open-ok (as_fault frame (frame_read file end h)) _ rows e
     (λ bytes found e. then_open-ok (as_fault block (block_read form bytes)) _ rows e
     (λ spelled read last.
@@ -49,33 +48,33 @@ block_at-found frame block form file end h rows plain e =
     record {
       bytes = bytes;
       framed = framed;
-      block = read-sound form bytes rows plain (framed-short file end h bytes framed)
+      block = read-sound form bytes rows (framed-short file end h bytes framed)
           (record { spelled = spelled; reads = as_fault-ok block (block_read form bytes) spelled read; are_rows = cc });
     }))
 
 -- a fault is one of the frame, or of the block in it
 pub block_at-fault : {F P : Type 0} (frame : FrameFault → F) (block : BlockFault → F) (form : RowForm) (file : List ℕ) (end : ℕ) (h : Handle) (fault : F)
-    → HasNoFlags form → block_at frame block form file end h ≡ Err fault
+    → block_at frame block form file end h ≡ Err fault
     → ((f : FrameFault) → IsFrameFault file end h f → frame f ≡ fault → P)
     → ((bytes : List ℕ) → Framed file end h bytes → (f : BlockFault) → IsFirstFault form bytes f → block f ≡ fault → P) → P
-block_at-fault frame block form file end h fault plain e of_frame of_block =
+block_at-fault frame block form file end h fault e of_frame of_block =
     then_open-err (as_fault frame (frame_read file end h)) _ fault e
     (λ first. as_fault-err frame (frame_read file end h) fault first (λ f is same. of_frame f (frame-fault file end h f is) same))
     (λ bytes found e. then_open-err (as_fault block (block_read form bytes)) _ fault e
     (λ first. as_fault-err block (block_read form bytes) fault first
-    (λ f is same. of_block bytes (framed-read file end h bytes (as_fault-ok frame (frame_read file end h) bytes found)) f (read-first form bytes f plain is) same))
+    (λ f is same. of_block bytes (framed-read file end h bytes (as_fault-ok frame (frame_read file end h) bytes found)) f (read-first form bytes f is) same))
     (λ spelled read last. cc))
 
 -- the same of the parts
 pub block_at-complete : {F : Type 0} (frame : FrameFault → F) (block : BlockFault → F) (form : RowForm) (file : List ℕ) (end : ℕ) (h : Handle) (bytes : List ℕ) (rows : List Row)
-    → HasNoFlags form → Framed file end h bytes → Block form bytes rows → block_at frame block form file end h ≡ Ok rows
-block_at-complete frame block form file end h bytes rows plain framed is =
-    block_at-rows frame block form file end h rows plain (record { bytes = bytes; framed = framed; block = is })
+    → Framed file end h bytes → Block form bytes rows → block_at frame block form file end h ≡ Ok rows
+block_at-complete frame block form file end h bytes rows framed is =
+    block_at-rows frame block form file end h rows (record { bytes = bytes; framed = framed; block = is })
 
 pub block_at-sound : {F : Type 0} (frame : FrameFault → F) (block : BlockFault → F) (form : RowForm) (file : List ℕ) (end : ℕ) (h : Handle) (rows : List Row)
-    → HasNoFlags form → block_at frame block form file end h ≡ Ok rows → (bytes : List ℕ) × Framed file end h bytes × Block form bytes rows
-block_at-sound frame block form file end h rows plain e =
-    let at = block_at-found frame block form file end h rows plain e in (at.bytes, at.framed, at.block)
+    → block_at frame block form file end h ≡ Ok rows → (bytes : List ℕ) × Framed file end h bytes × Block form bytes rows
+block_at-sound frame block form file end h rows e =
+    let at = block_at-found frame block form file end h rows e in (at.bytes, at.framed, at.block)
 
 -- a handle frames one block at most
 pub framed-once : (file : List ℕ) (end : ℕ) (h : Handle) (a b : List ℕ) → Framed file end h a → Framed file end h b → a ≡ b
@@ -99,9 +98,9 @@ pub no-frame_fault : (form : RowForm) (file : List ℕ) (end : ℕ) (h : Handle)
     → IsFrameFault file end h fault → ⊥
 no-frame_fault form file end h rows fault at wrong = cc (frame_read-framed file end h at.bytes at.framed, frame_read-fault file end h fault wrong)
 
-pub no-block_fault : (form : RowForm) (file : List ℕ) (end : ℕ) (h : Handle) (rows : List Row) (bytes : List ℕ) (fault : BlockFault) → HasNoFlags form
+pub no-block_fault : (form : RowForm) (file : List ℕ) (end : ℕ) (h : Handle) (rows : List Row) (bytes : List ℕ) (fault : BlockFault)
     → RowsAt form file end h rows → Framed file end h bytes → IsFirstFault form bytes fault → ⊥
-no-block_fault form file end h rows bytes fault plain at framed wrong =
+no-block_fault form file end h rows bytes fault at framed wrong =
     let same = bytes-once form file end h rows bytes at framed in
-    let read = first-read form bytes fault plain (framed-short file end h bytes framed) wrong in
-    no-rows form at.bytes fault rows plain (subst (λ (b : List ℕ). block_read form b ≡ Err fault) (sym same) read) at.block
+    let read = first-read form bytes fault (framed-short file end h bytes framed) wrong in
+    no-rows form at.bytes fault rows (subst (λ (b : List ℕ). block_read form b ≡ Err fault) (sym same) read) at.block

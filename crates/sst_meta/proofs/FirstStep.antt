@@ -143,7 +143,7 @@ metaindex_rows-pass : (file : List ℕ) (end : ℕ) (h index : Handle) (rows : L
 metaindex_rows-pass file end h index rows leads has = λ another fails.
     let same = leads-once file end h index fails.0 fails.1 fails.2 leads fails.3 in
     let w = fails.4 in
-    block-right Names file end h fails.0 fails.1 rows w.1 w.0 tt same.0 same.1 (pairs-rows file end h rows has) w.3 w.4
+    block-right Names file end h fails.0 fails.1 rows w.1 w.0 same.0 same.1 (pairs-rows file end h rows has) w.3 w.4
 
 props_frame-passes : (file : List ℕ) (end : ℕ) (h : Handle) (block : List ℕ) → PropsLead file end h → Framed file end h block → Passes file props_frame
 props_frame-passes file end h block lead framed = λ another fails.
@@ -154,7 +154,7 @@ props_rows-pass : (file : List ℕ) (end : ℕ) (h : Handle) (rows : List Row) �
 props_rows-pass file end h rows lead has = λ another fails.
     let same = lead-same file end h fails.0 fails.1 lead fails.2 in
     let w = fails.3 in
-    block-right Names file end h fails.0 fails.1 rows w.1 w.0 tt same.0 same.1 (pairs-rows file end h rows has) w.3 w.4
+    block-right Names file end h fails.0 fails.1 rows w.1 w.0 same.0 same.1 (pairs-rows file end h rows has) w.3 w.4
 
 -- a rule that finds nothing passes
 rule-passes : (o : Option MetaFault) (another : MetaFault) → o ≡ None → o ≡ Some another → ⊥
@@ -205,13 +205,13 @@ lead-first file end names (Some value) fault has is clear e =
           let lead : PropsLead file end h = (names, value, has, is, handle) in
           let a = clear-next file props_handle clear (handle-passes file end names value h has is handle) in
           then_open-err (block_at meta.Frame (meta.Block h) Names file end h) sound_props fault e
-          (λ first. block_at-fault meta.Frame (meta.Block h) Names file end h fault tt first
+          (λ first. block_at-fault meta.Frame (meta.Block h) Names file end h fault first
           (λ f wrong same. (props_frame, record { fails = (end, h, lead, (f, sym same, wrong)); first = a }))
           (λ block framed f wrong same.
           let b = clear-next file props_frame a (props_frame-passes file end h block lead framed) in
           (props_rows, record { fails = (end, h, lead, (f, block, sym same, framed, wrong)); first = b })))
           (λ rows found last.
-          let pairs = rows-pairs file end h rows (block_at-found meta.Frame (meta.Block h) Names file end h rows tt found) in
+          let pairs = rows-pairs file end h rows (block_at-found meta.Frame (meta.Block h) Names file end h rows found) in
           let b = clear-next file props_frame a (props_frame-passes file end h pairs.block lead pairs.framed) in
           let c = clear-next file props_rows b (props_rows-pass file end h rows lead pairs) in
           rules-first file rows fault (end, h, lead, pairs) c (unless-err rows (props_fault rows) fault last))
@@ -234,13 +234,13 @@ names-first file footer fault leads clear e =
     let end = footer_start file in
     let h = footer.meta in
     then_open-err (block_at meta.Frame (meta.Block h) Names file end h) _ fault e
-    (λ first. block_at-fault meta.Frame (meta.Block h) Names file end h fault tt first
+    (λ first. block_at-fault meta.Frame (meta.Block h) Names file end h fault first
     (λ f wrong same. (metaindex_frame, record { fails = (end, h, footer.index, leads, (f, sym same, wrong)); first = clear }))
     (λ block framed f wrong same.
     let a = clear-next file metaindex_frame clear (metaindex_frame-passes file end h footer.index block leads framed) in
     (metaindex_rows, record { fails = (end, h, footer.index, leads, (f, block, sym same, framed, wrong)); first = a })))
     (λ names found e.
-    let pairs = rows-pairs file end h names (block_at-found meta.Frame (meta.Block h) Names file end h names tt found) in
+    let pairs = rows-pairs file end h names (block_at-found meta.Frame (meta.Block h) Names file end h names found) in
     let a = clear-next file metaindex_frame clear (metaindex_frame-passes file end h footer.index pairs.block leads pairs.framed) in
     let b = clear-next file metaindex_rows a (metaindex_rows-pass file end h footer.index names leads pairs) in
     then_open-err (props_read file end names) _ fault e

@@ -44,7 +44,7 @@ props-complete file end (Some value) None short leads good = absurd leads
 props-complete file end (Some value) (Some props) short leads good =
     let h = leads.0 in
     let fits = handle-fits file end h leads.2.block short leads.2.framed in
-    let rows = block_at-rows meta.Frame (meta.Block h) Names file end h props tt (pairs-rows file end h props leads.2) in
+    let rows = block_at-rows meta.Frame (meta.Block h) Names file end h props (pairs-rows file end h props leads.2) in
     ap (props_in file end) (handle_in-handle h value (fits.0, fits.1, leads.1))
     ∙ ap (λ (r : Result (List Row) MetaFault). then_open r sound_props) rows ∙ ap (unless_fault props) (good-no_fault props good)
 
@@ -71,7 +71,7 @@ props-sound file end (Some value) props e =
           then_open-ok (block_at meta.Frame (meta.Block h) Names file end h) sound_props props e
           (λ rows found last.
           let passed = unless-ok rows (props_fault rows) props last in
-          let at = block_at-found meta.Frame (meta.Block h) Names file end h rows tt found in
+          let at = block_at-found meta.Frame (meta.Block h) Names file end h rows found in
           subst (λ (p : Option (List Row)). LeadsToProps file end (Some value) p × IfSome p AreGood) passed.0
           ((h, (handle_in-found h value read).2, rows-pairs file end h rows at), no_fault-good rows passed.1))
     ] refl e
@@ -105,7 +105,7 @@ load-complete file loaded m =
     let end = footer_start file in
     let limited = m.limited in
     let read : end_read (last_bytes 53 file) ≡ Ok footer = (footer_read-leads file end footer.meta footer.index m.leads).1 ∙ ap Ok (sym m.footer) in
-    let names = block_at-rows meta.Frame (meta.Block footer.meta) Names file end footer.meta loaded.names tt (pairs-rows file end footer.meta loaded.names m.names) in
+    let names = block_at-rows meta.Frame (meta.Block footer.meta) Names file end footer.meta loaded.names (pairs-rows file end footer.meta loaded.names m.names) in
     let props = read-none file end loaded.names loaded.props m.no_tombstones
     (props-complete file end (value_of (name_bytes name.Properties) loaded.names) loaded.props (omega arith) m.props m.good) in
     rw (lt-ltb (length file) (2 ^ 40) m.limited)
@@ -125,7 +125,7 @@ load-sound file loaded e =
     (λ names found e. then_open-ok (props_read file end names) _ loaded e
     (λ props got last.
     let leads = leads-read file footer read in
-    let at = block_at-found meta.Frame (meta.Block footer.meta) Names file end footer.meta names tt found in
+    let at = block_at-found meta.Frame (meta.Block footer.meta) Names file end footer.meta names found in
     let same : ◌≡◌ {A = Loaded} (as_loaded file footer names props) loaded = cc in
     read-parts file end names (Ok props) got (λ _ _ wrong. cc)
     (λ none good.

@@ -146,7 +146,7 @@ no-meta_fault file loaded (meta.Frame fault) m shows =
     no-frame_fault Names file shows.0 shows.1 at.0 fault at.1 shows.3
 no-meta_fault file loaded (meta.Block h fault) m shows =
     let at = reached-rows file loaded shows.0 h m shows.2 in
-    no-block_fault Names file shows.0 h at.0 shows.1 fault tt at.1 shows.3 shows.4
+    no-block_fault Names file shows.0 h at.0 shows.1 fault at.1 shows.3 shows.4
 no-meta_fault file loaded meta.RangeTombstones m shows =
     let same = names-once file loaded shows.0 shows.1 m shows.3 in
     cc (m.no_tombstones, ap (value_of range_tombstones) same.1, shows.4)

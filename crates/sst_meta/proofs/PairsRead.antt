@@ -45,7 +45,7 @@ all_read block n pairs given copied =
     subst (λ (rows : List Row). Reads Names block rows) (copied r.0 r.1 r.2) r.1
 
 pub all_stand : (block : List ℕ) (pairs : List Pair) → length block ≤ 2 ^ 29 → Reads Names block (rows_of_pairs pairs) → Block Names block (rows_of_pairs pairs)
-all_stand block pairs short reads = read-sound Names block (rows_of_pairs pairs) tt short reads
+all_stand block pairs short reads = read-sound Names block (rows_of_pairs pairs) short reads
 
 pub all_ordered : (block : List ℕ) (pairs : List Pair) → length block ≤ 2 ^ 29 → Reads Names block (rows_of_pairs pairs) → AreOrdered Names (rows_of_pairs pairs)
 all_ordered block pairs short reads = (all_stand block pairs short reads).ordered
@@ -59,4 +59,4 @@ same_pairs block pairs rows short reads stands = one-list Names block (rows_of_p
 pub only_memory : (block : List ℕ) (refused : Refused BlockFault) (rows : List Row) → Gives (Err refused) (block_read Names block) → Block Names block rows
     → refused ≡ Memory
 only_memory block Memory rows given stands = refl
-only_memory block (Cause fault) rows given stands = absurd (no-rows Names block fault rows tt given stands)
+only_memory block (Cause fault) rows given stands = absurd (no-rows Names block fault rows given stands)

@@ -30,12 +30,12 @@ metaindex-le at pairs =
 metaindex-is : (at : ℕ) (pairs : List Row) → Block Names (metaindex_block at pairs) (metaindex_for at pairs)
 metaindex-is at pairs =
     let row : Row = (record { key = name_bytes name.Properties; value = handle_spelling (record { offset = at; size = length (props_for pairs) }) }) in
-    block_of_is_block Names 1 (metaindex_for at pairs) (omega arith) (All-cons (IsRow Names) row [] (omega arith, tt) (All-nil (IsRow Names))) tt
+    block_of_is_block Names 1 (metaindex_for at pairs) (omega arith) (All-cons (IsRow Names) row [] (omega arith, tt) (All-nil (IsRow Names))) tt tt
     (omega (arith, metaindex-le at pairs))
 
 -- the properties block stands for the properties
 props-are : (pairs : List Row) → AreProps pairs → Block Names (props_for pairs) pairs
-props-are pairs p = block_of_is_block Names 65536 pairs (omega arith) p.forms p.ordered p.short
+props-are pairs p = block_of_is_block Names 65536 pairs (omega arith) p.forms p.ordered tt p.short
 
 -- what is before the metaindex block, and what is before the footer
 before_metaindex : List ℕ → List Row → List ℕ

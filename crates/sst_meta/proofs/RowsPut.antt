@@ -1,5 +1,5 @@
 -- A builder takes the rows that are given to it one after another.
-use Rattle.std.proofs.Common.{◌≡◌, ℕ, ◌+◌, ◌≤◌, List, [], ◌∷◌, ◌++◌, length, take, drop, Option, Some, slice_get, sym, ap, ◌∙◌, subst, sum_by, arith}
+use Rattle.std.proofs.Common.{refl, ◌≡◌, ℕ, ◌+◌, ◌≤◌, List, [], ◌∷◌, ◌++◌, length, take, drop, Option, Some, slice_get, sym, ap, ◌∙◌, subst, sum_by, arith}
 use Rattle.std.specs.Option.{option_map}
 use Rattle.std.proofs.lemmas.List.{take-append-drop, take-map}
 use Rattle.std.proofs.lemmas.List.Elements.{All-nil, All-cons, All-get_or}
@@ -27,7 +27,7 @@ front-whole rows n row at = ap (λ (l : List Row). l ++ drop (n + 1) rows) (one_
 
 -- a builder that has the rows before one takes it
 pub takes_at : (b : BlockBuilder) (interval : ℕ) (rows : List Row) (n : ℕ) (row : Row) → AreMetaRows rows → slice_get rows n ≡ Some row
-    → Holds b Names interval (take n rows) → CanAdd b row
+    → Holds b Names interval (take n rows) → CanAdd b row []
 takes_at b interval rows n row stand at holds =
     let whole = front-whole rows n row at in
     let form : IsRow Names row =
@@ -35,13 +35,13 @@ takes_at b interval rows n row stand at holds =
     let ordered : AreOrdered Names ((take n rows ++ row ∷ []) ++ drop (n + 1) rows) = subst (λ (l : List Row). AreOrdered Names l) (sym whole) stand.ordered in
     let less : sum_by row_room (take n rows ++ row ∷ []) ≤ sum_by row_room rows =
     subst (λ (l : List Row). sum_by row_room l ≤ sum_by row_room rows) (sym (one_more rows n row at)) (sum_by-take-le row_room rows (n + 1)) in
-    can_add b Names interval (take n rows) row holds form
+    can_add b Names interval (take n rows) row [] refl holds form
     (ordered-front Names (take n rows ++ row ∷ []) (drop (n + 1) rows) ordered)
     (omega (arith, less, stand.room))
 
 -- the same of rows as they are given
 pub takes_given : (b : BlockBuilder) (interval : ℕ) (rows : List MetaRow) (n : ℕ) (row : MetaRow) → AreMetaRows (rows_given rows) → slice_get rows n ≡ Some row
-    → Holds b Names interval (rows_given (take n rows)) → CanAdd b (row_given row)
+    → Holds b Names interval (rows_given (take n rows)) → CanAdd b (row_given row) []
 takes_given b interval rows n row stand at holds =
     let there : slice_get (rows_given rows) n ≡ Some (row_given row) = slice_get-map row_given rows n ∙ ap (λ (o : Option MetaRow). option_map row_given o) at in
     takes_at b interval (rows_given rows) n (row_given row) stand there (subst (λ (l : List Row). Holds b Names interval l) (sym (take-map row_given n rows)) holds)

@@ -285,7 +285,7 @@ fails-once file metaindex_rows a b bytes left right =
     let w = left.4 in
     let x = right.4 in
     w.2 ∙ ap (λ (k : Handle). meta.Block k w.0) same.1
-    ∙ ap (meta.Block right.1) (block-same Names file left.0 left.1 right.0 right.1 w.1 x.1 w.0 x.0 tt same.0 same.1 w.3 x.3 w.4 x.4) ∙ sym x.2
+    ∙ ap (meta.Block right.1) (block-same Names file left.0 left.1 right.0 right.1 w.1 x.1 w.0 x.0 same.0 same.1 w.3 x.3 w.4 x.4) ∙ sym x.2
 fails-once file no_tombstones a b bytes left right = left.0 ∙ sym right.0
 fails-once file props_handle a b bytes left right = left.0 ∙ sym right.0
 fails-once file props_frame a b bytes left right =
@@ -298,7 +298,7 @@ fails-once file props_rows a b bytes left right =
     let w = left.3 in
     let x = right.3 in
     w.2 ∙ ap (λ (k : Handle). meta.Block k w.0) same.1
-    ∙ ap (meta.Block right.1) (block-same Names file left.0 left.1 right.0 right.1 w.1 x.1 w.0 x.0 tt same.0 same.1 w.3 x.3 w.4 x.4) ∙ sym x.2
+    ∙ ap (meta.Block right.1) (block-same Names file left.0 left.1 right.0 right.1 w.1 x.1 w.0 x.0 same.0 same.1 w.3 x.3 w.4 x.4) ∙ sym x.2
 fails-once file key_order a b bytes left right = left.0 ∙ sym right.0
 fails-once file index_type a b bytes left right =
     let p = type-props file a left in

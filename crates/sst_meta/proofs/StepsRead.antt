@@ -10,7 +10,6 @@ use Rattle.sst_block.specs.declared.row_form.RowForm.{RowForm}
 use Rattle.sst_block.specs.declared.row_form.RowForm.TheVariants.{Names}
 use Rattle.sst_block.specs.declared.fault.BlockFault.{BlockFault}
 use Rattle.sst_block.specs.Block.{Row, Spelled}
-use Rattle.sst_block.specs.Builder.{HasNoFlags}
 use Rattle.sst_block.specs.FirstFault.{IsFirstFault}
 use Rattle.sst_device.specs.Framed.{Framed}
 use Rattle.sst_device.specs.FrameFaults.{IsFrameFault}
@@ -176,13 +175,13 @@ framed-moved file end h last k block ends handles framed =
     subst (λ e. Framed file e k block) ends (subst (λ (x : Handle). Framed file end x block) handles framed)
 
 -- and so has a block
-pub block-same : (form : RowForm) (file : List ℕ) (end : ℕ) (h : Handle) (last : ℕ) (k : Handle) (x y : List ℕ) (a b : BlockFault) → HasNoFlags form → end ≡ last → h ≡ k
+pub block-same : (form : RowForm) (file : List ℕ) (end : ℕ) (h : Handle) (last : ℕ) (k : Handle) (x y : List ℕ) (a b : BlockFault) → end ≡ last → h ≡ k
     → Framed file end h x → Framed file last k y → IsFirstFault form x a → IsFirstFault form y b → a ≡ b
-block-same form file end h last k x y a b plain ends handles framed_x framed_y left right =
+block-same form file end h last k x y a b ends handles framed_x framed_y left right =
     let bytes = framed-once file last k x y (framed-moved file end h last k x ends handles framed_x) framed_y in
     let moved : IsFirstFault form y a = subst (λ (l : List ℕ). IsFirstFault form l a) bytes left in
     let short = framed-short file last k y framed_y in
-    let same : ◌≡◌ {A = Result (List Spelled) BlockFault} (Err a) (Err b) = sym (first-read form y a plain short moved) ∙ first-read form y b plain short right in
+    let same : ◌≡◌ {A = Result (List Spelled) BlockFault} (Err a) (Err b) = sym (first-read form y a short moved) ∙ first-read form y b short right in
     cc
 
 pub rows-moved : (form : RowForm) (file : List ℕ) (end : ℕ) (h : Handle) (last : ℕ) (k : Handle) (rows : List Row) → end ≡ last → h ≡ k → RowsAt form file end h rows
@@ -190,10 +189,10 @@ pub rows-moved : (form : RowForm) (file : List ℕ) (end : ℕ) (h : Handle) (la
 rows-moved form file end h last k rows ends handles at =
     subst (λ e. RowsAt form file e k rows) ends (subst (λ (x : Handle). RowsAt form file end x rows) handles at)
 
-pub block-right : (form : RowForm) (file : List ℕ) (end : ℕ) (h : Handle) (last : ℕ) (k : Handle) (rows : List Row) (block : List ℕ) (wrong : BlockFault) → HasNoFlags form
+pub block-right : (form : RowForm) (file : List ℕ) (end : ℕ) (h : Handle) (last : ℕ) (k : Handle) (rows : List Row) (block : List ℕ) (wrong : BlockFault)
     → end ≡ last → h ≡ k → RowsAt form file end h rows → Framed file last k block → IsFirstFault form block wrong → ⊥
-block-right form file end h last k rows block wrong plain ends handles at framed is =
-    no-block_fault form file last k rows block wrong plain (rows-moved form file end h last k rows ends handles at) framed is
+block-right form file end h last k rows block wrong ends handles at framed is =
+    no-block_fault form file last k rows block wrong (rows-moved form file end h last k rows ends handles at) framed is
 
 -- what fails of a property is what its rule gives
 pub comparator-fails : (value : List ℕ) → value ≢ bytewise → comparator_fault (Some value) ≡ Some meta.Comparator

@@ -91,7 +91,7 @@ fn block_of_rows(alloc: Global, interval: u32, rows: &[MetaRow<'_>]) -> Result<B
 
 /// Adds a row after the others.
 fn add_row(alloc: Global, block: &mut BlockBuilder, row: &MetaRow<'_>) -> Result<(), Memory>
-    requires { CanAdd block.old (row_given row.now) }
+    requires { CanAdd block.old (row_given row.now) [] }
     ensures { OnOk result ((interval : ℕ) (rows : List Row) → Holds block.old Names interval rows
         → Holds block.new Names interval (rows ++ row_given row.now ∷ [])) }
 {

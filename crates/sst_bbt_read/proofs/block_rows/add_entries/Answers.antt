@@ -9,19 +9,19 @@ use Rattle.sst_bbt_read.proofs.BlockRows.{internal_at, copied_more, copied_all, 
 use Rattle.sst_bbt_read.proofs.block_rows.add_entries.Goals as goal
 
 pub start-rows-requires : goal.start-rows-requires
-start-rows-requires c = let r = c.requires.read in (r.0, read-sound Entries c.args.block.now r.0 tt c.requires.short r.1)
+start-rows-requires c = let r = c.requires.read in (r.0, read-sound Entries c.args.block.now r.0 c.requires.short r.1)
 
 pub first-requires : goal.first-requires
 first-requires c =
     let r = c.requires.read in
-    (r.0, None, c.start-rows.ensures.walks r.0 (read-sound Entries c.args.block.now r.0 tt c.requires.short r.1))
+    (r.0, None, c.start-rows.ensures.walks r.0 (read-sound Entries c.args.block.now r.0 c.requires.short r.1))
 
 pub loop-row-init : goal.loop-row-init
 loop-row-init c = record {
   added = [];
   appended = sym (append-nil c.args.entries.now.items);
   front = record {
-    walks = λ rows reads many. c.first.ensures.moves rows None (c.start-rows.ensures.walks rows (read-sound Entries c.args.block.now rows tt c.requires.short reads));
+    walks = λ rows reads many. c.first.ensures.moves rows None (c.start-rows.ensures.walks rows (read-sound Entries c.args.block.now rows c.requires.short reads));
     copied = λ rows reads many. refl;
     seqs = All-nil HasSeq;
   };
@@ -41,7 +41,7 @@ pub entry_of-requires : goal.entry_of-requires
 entry_of-requires c =
     let r = c.requires.read in
     let at = walks-at c.loop-row.rows r.0 c.loop-row._row (omega (arith, r.2)) (c.loop-row.invariant.front.walks r.0 r.1 r.2) in
-    let block = read-sound Entries c.args.block.now r.0 tt c.requires.short r.1 in
+    let block = read-sound Entries c.args.block.now r.0 c.requires.short r.1 in
     internal_at c.args.block.now r.0 c.loop-row._row c.key.result.now block (c.key.ensures r.0 c.loop-row._row at)
 
 pub next-requires : goal.next-requires
@@ -71,5 +71,5 @@ returns c = record {
   rows = λ rows reads many.
       let so = c.loop-row.invariant in
       let all = copied_all rows c.loop-row._row so.added (so.front.copied rows reads many) (omega (arith, many)) in
-      (so.added, so.appended, all, entries_are c.args.block.now rows so.added (read-sound Entries c.args.block.now rows tt c.requires.short reads) all so.front.seqs);
+      (so.added, so.appended, all, entries_are c.args.block.now rows so.added (read-sound Entries c.args.block.now rows c.requires.short reads) all so.front.seqs);
 }

@@ -7,16 +7,16 @@ use Rattle.sst_meta.proofs.PairsRead.{copied_more, copied_all}
 use Rattle.sst_meta.proofs.props.pairs_of.Goals as goal
 
 pub start-rows-requires : goal.start-rows-requires
-start-rows-requires c = let r = c.requires.read in (r.0, read-sound Names c.args.block.now r.0 tt c.requires.short r.1)
+start-rows-requires c = let r = c.requires.read in (r.0, read-sound Names c.args.block.now r.0 c.requires.short r.1)
 
 pub first-requires : goal.first-requires
 first-requires c =
     let r = c.requires.read in
-    (r.0, None, c.start-rows.ensures.walks r.0 (read-sound Names c.args.block.now r.0 tt c.requires.short r.1))
+    (r.0, None, c.start-rows.ensures.walks r.0 (read-sound Names c.args.block.now r.0 c.requires.short r.1))
 
 pub loop-row-init : goal.loop-row-init
 loop-row-init c = record {
-  walks = λ rows reads many. c.first.ensures.moves rows None (c.start-rows.ensures.walks rows (read-sound Names c.args.block.now rows tt c.requires.short reads));
+  walks = λ rows reads many. c.first.ensures.moves rows None (c.start-rows.ensures.walks rows (read-sound Names c.args.block.now rows c.requires.short reads));
   copied = λ rows reads many. ap rows_of_pairs c.new-pairs.ensures.items;
 }
 

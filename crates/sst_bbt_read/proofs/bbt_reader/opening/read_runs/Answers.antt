@@ -16,15 +16,15 @@ use Rattle.sst_bbt_read.proofs.bbt_reader.opening.read_runs.Goals as goal
 pub first-requires : goal.first-requires
 first-requires g c =
     let r = c.requires.read in
-    (r.0, None, c.start-rows.ensures.walks r.0 (read-sound (Index false false) c.args.index.now r.0 tt c.requires.short r.1))
+    (r.0, None, c.start-rows.ensures.walks r.0 (read-sound (Index false false) c.args.index.now r.0 c.requires.short r.1))
 
 pub start-rows-requires : goal.start-rows-requires
-start-rows-requires g c = let r = c.requires.read in (r.0, read-sound (Index false false) c.args.index.now r.0 tt c.requires.short r.1)
+start-rows-requires g c = let r = c.requires.read in (r.0, read-sound (Index false false) c.args.index.now r.0 c.requires.short r.1)
 
 pub loop-row-init : goal.loop-row-init
 loop-row-init g c = record {
   runs = rw (c.new-ends.ensures.items, c.new-entries.ensures.items) (record {
-    walks = λ rows is. c.first.ensures.moves rows None (c.start-rows.ensures.walks rows (read-sound (Index false false) c.args.index.now rows tt c.requires.short is.0));
+    walks = λ rows is. c.first.ensures.moves rows None (c.start-rows.ensures.walks rows (read-sound (Index false false) c.args.index.now rows c.requires.short is.0));
     keys = λ rows is. refl;
     are = refl;
     blocks = All-nil (λ (b : IndexedBlock). AreEntries b.entries);

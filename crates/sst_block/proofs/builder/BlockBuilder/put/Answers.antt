@@ -1,9 +1,11 @@
-use Rattle.std.proofs.Common.{◌≡◌, ◌≤◌, ℕ, List, take, length, sym, subst, ap, ◌∙◌, arith}
-use Rattle.sst_block.specs.Block.{common, SpellsLengths}
+use Rattle.std.proofs.Common.{◌≡◌, ◌≤◌, ℕ, List, take, length, ap, ◌∙◌, arith}
+use Rattle.sst_block.specs.Block.{Row, common}
 use Rattle.sst_block.proofs.Fronts.{common-take, common-le_right}
 use Rattle.sst_block.proofs.Kept.{Keeps-put}
-use Rattle.sst_block.proofs.Spellings.{spells-row}
-use Rattle.sst_block.proofs.Held.{value_short, may_stand-more}
+use Rattle.sst_block.proofs.Held.{value_short, fits-more}
+use Rattle.sst_block.proofs.Putting.{stored-is, spelling-is, handles-more, holds-more, pairs-more}
+use Rattle.sst_block.specs.declared.row_form.RowForm.TheVariants.{Index}
+use Rattle.sst_block.specs.Builder.{row_put}
 use Rattle.sst_block.proofs.builder.BlockBuilder.put.Goals as goal
 
 -- what the common front gives the calls that take it
@@ -18,8 +20,11 @@ put_row-requires-clause-front c = front-le c.deref.result.now c.args.key.now _ c
 
 pub put_row-requires-clause-value : goal.put_row-requires-clause-value
 put_row-requires-clause-value c =
-    let short = value_short c.requires.form c.requires.interval c.requires.rows _ c.requires.short in
-    omega (arith, short)
+    let t = c.requires in
+    let waits = c.in_ok-make_room.ensures t.form t.interval t.rows t.holds in
+    let stored = stored-is t.form _ t.interval t.rows _ _ _ _ _ _ _ c.args.key.now c.args.value.now c.args.delta.now _ waits.ready waits.form_is c.deref.ensures.value c.common_front-shared.ensures c.value_put-stored.ensures in
+    let short = value_short t.form t.interval t.rows _ t.short in
+    omega (arith, short, ap length stored)
 
 pub keep_key-requires-clause-front : goal.keep_key-requires-clause-front
 keep_key-requires-clause-front c = front-le c.deref.result.now c.args.key.now _ c.common_front-shared.ensures
@@ -35,17 +40,27 @@ overflow_add-self c =
     let most = t.holds.fits.most in
     omega (arith, room, most)
 
-pub returns : goal.returns
-returns c = λ form interval rows h.
+-- the builder holds the rows and the one that was put
+pub returns-clause-ok : goal.returns-clause-ok
+returns-clause-ok c = λ form interval rows h.
     let t = c.requires in
-    let waits = c.in_ok-make_room.ensures form interval rows h in
-    let same_form = sym h.form_is ∙ t.holds.form_is in
-    let spells = subst (λ f. SpellsLengths f) (sym same_form) (spells-row t.form _ t.has_form.1) in
+    let row : Row = record { key = c.args.key.now; value = c.args.value.now } in
+    let waits = c.in_ok-make_room.ensures t.form t.interval t.rows t.holds in
     let shared = c.common_front-shared.ensures ∙ ap (λ (l : List ℕ). common l c.args.key.now) c.deref.ensures.value in
-    record {
+    let stored = stored-is t.form _ t.interval t.rows _ _ _ _ _ _ _ c.args.key.now c.args.value.now c.args.delta.now _ waits.ready waits.form_is c.deref.ensures.value c.common_front-shared.ensures c.value_put-stored.ensures in
+    let spelled = spelling-is t.form _ _ _ c.args.key.now _ _ _ waits.form_is stored c.in_ok-put_row.ensures in
+    holds-more c.args.self.now _ row c.args.delta.now form interval rows t h
+    (record {
       sound = waits.sound;
       form_is = waits.form_is;
       interval_is = waits.interval_is;
-      keeps = Keeps-put form interval rows _ _ _ _ _ _ _ _ _ waits.ready shared (c.in_ok-put_row.ensures form spells) c.in_ok-keep_key.ensures;
-      fits = may_stand-more form t.form interval t.interval rows t.rows _ _ _ _ _ _ same_form (sym h.interval_is ∙ t.holds.interval_is) h.keeps t.holds.keeps h.fits t.has_form t.ordered t.short;
-    }
+      keeps = Keeps-put t.form t.interval t.rows _ _ _ _ _ _ _ _ (row_put t.form t.interval t.rows row c.args.delta.now) waits.ready shared spelled c.in_ok-keep_key.ensures;
+      fits = fits-more t.form t.interval t.rows (row_put t.form t.interval t.rows row c.args.delta.now) t.holds.fits t.has_form t.ordered
+          (handles-more t.form t.interval t.rows row c.args.delta.now t.holds.fits.handles t.given) t.short;
+    })
+
+pub returns-clause-pairs : goal.returns-clause-pairs
+returns-clause-pairs c = λ user_key delta interval pairs h held low small whole.
+    let row : Row = record { key = c.args.key.now; value = c.args.value.now } in
+    pairs-more c.args.self.now _ row c.args.delta.now user_key delta interval pairs h c.requires held low small whole
+    (returns-clause-ok c (Index user_key delta) interval held.rows held.holds)
