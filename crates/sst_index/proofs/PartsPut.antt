@@ -5,9 +5,9 @@ use Rattle.std.proofs.lemmas.List.{append-nil, length-map, take_min, drop_min, d
 use Rattle.std.proofs.lemmas.List.Elements.{All-head, All-tail, All-weaker}
 use Rattle.std.proofs.lemmas.List.Sums.{sum_by-take-le}
 use Rattle.sst_key.specs.Limits.{stored_key_limit}
-use Rattle.sst_block.specs.Block.{Row}
+use Rattle.sst_block.specs.Block.{Row, no_handle}
 use Rattle.sst_block.specs.Builder.{row_room}
-use Rattle.sst_block.specs.IndexRows.{IndexPair, no_handle}
+use Rattle.sst_block.specs.IndexRows.{IndexPair}
 use Rattle.sst_block.proofs.Size.{block_of-le}
 use Rattle.sst_device.specs.Framed.{frame_of}
 use Rattle.sst_index.specs.declared.flags.IndexFlags.{IndexFlags}

@@ -3,9 +3,9 @@ use Rattle.std.proofs.Common.{◌≡◌, inr, ℕ, ◌+◌, ◌^◌, ◌<◌, �
 use Rattle.std.proofs.lemmas.List.Sums.{sum_by-cons}
 use Rattle.sst_num.specs.Spelling.{varint, handle_spelling}
 use Rattle.sst_num.specs.declared.block_handle.Handle.{Handle}
-use Rattle.sst_block.specs.Block.{Row, AreOrdered}
+use Rattle.sst_block.specs.Block.{Row, AreOrdered, no_handle}
 use Rattle.sst_block.specs.Builder.{row_room}
-use Rattle.sst_block.specs.IndexRows.{IndexPair, no_handle}
+use Rattle.sst_block.specs.IndexRows.{IndexPair}
 use Rattle.sst_block.proofs.Size.{length-varint, block_of-le}
 use Rattle.sst_index.specs.declared.flags.IndexFlags.{IndexFlags}
 use Rattle.sst_index.specs.declared.top.TopBuilder.{TopBuilder}

@@ -5,9 +5,9 @@ use Rattle.std.proofs.lemmas.List.{take-append-drop}
 use Rattle.std.proofs.lemmas.List.Elements.{All-nil, All-cons, All-head, All-tail, All-take, All-drop}
 use Rattle.std.proofs.lemmas.List.Sums.{sum_by-cons, sum_by-take-le, sum_by-take-drop}
 use Rattle.sst_key.specs.Limits.{stored_key_limit}
-use Rattle.sst_block.specs.Block.{Row, AreOrdered}
+use Rattle.sst_block.specs.Block.{Row, AreOrdered, no_handle}
 use Rattle.sst_block.specs.Builder.{row_room}
-use Rattle.sst_block.specs.IndexRows.{IndexPair, IndexRows, no_handle}
+use Rattle.sst_block.specs.IndexRows.{IndexPair, IndexRows}
 use Rattle.sst_block.proofs.Size.{block_of-le}
 use Rattle.sst_index.specs.declared.flags.IndexFlags.{IndexFlags}
 use Rattle.sst_index.specs.Ends.{BlockEnd, AreEnds, flags_of, pairs_of}

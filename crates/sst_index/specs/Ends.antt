@@ -11,7 +11,7 @@ use Rattle.sst_index.specs.declared.flags.IndexFlags.{IndexFlags}
 use Rattle.sst_index.specs.Separators.{separator_of}
 
 -- a data block: its last key, the first key of the next block if there is one, and where it stands
--- Pinned by: index_blocks
+-- Pinned by: index_of_blocks_that_share, index_of_user_keys
 pub record BlockEnd : Type 0 where
   pub last : List ℕ
   pub next_first : Option (List ℕ)
@@ -19,11 +19,14 @@ pub record BlockEnd : Type 0 where
 
 -- the next block begins with the user key with which this one ends
 -- RocksDB: index_builder.h, seperator_is_key_plus_seq_ of ShortenedIndexBuilder
--- Pinned by: index_blocks
+-- Pinned by: index_of_blocks_that_share, index_of_user_keys
 abbrev pub begins_with : List ℕ → Option (List ℕ) → Bool
 begins_with last None = false
 begins_with last (Some next) = bytes_eq (user_of last) (user_of next)
 
+-- the same of a data block
+-- RocksDB: index_builder.h, seperator_is_key_plus_seq_ of ShortenedIndexBuilder
+-- Pinned by: index_of_blocks_that_share, index_of_user_keys
 abbrev pub shares_user : BlockEnd → Bool
 shares_user e = begins_with e.last e.next_first
 
@@ -32,7 +35,7 @@ shares_user e = begins_with e.last e.next_first
 -- RocksDB: index_builder.h, seperator_is_key_plus_seq, and use_value_delta_encoding in
 -- table/block_based/block_based_table_builder.cc. That it is decided for the whole index is RocksDB's too; the versions are
 -- those of include/rocksdb/table.h, format_version
--- Pinned by: index_blocks
+-- Pinned by: index_of_blocks_that_share, index_of_user_keys, index_of_no_block, user_keys_though_shared
 abbrev pub flags_of : ℕ → List BlockEnd → IndexFlags
 flags_of version ends = record { user_key = nat_le 3 version && not (list_any shares_user ends); delta = nat_le 4 version }
 
@@ -48,16 +51,17 @@ separator_in true key = user_of key
 separator_in false key = key
 
 -- the pair that leads to a data block
--- Pinned by: finish.exact
+-- Pinned by: finish.bytes
 abbrev pub pair_of : Bool → BlockEnd → IndexPair
 pair_of user_key e = record { separator = separator_in user_key (stored_separator e); handle = e.handle }
 
 -- the pairs that lead to all of them
--- Pinned by: finish.exact
+-- Pinned by: finish.bytes
 abbrev pub pairs_of : ℕ → List BlockEnd → List IndexPair
 pairs_of version ends = map (pair_of (flags_of version ends).user_key) ends
 
 -- a key that may stand in a block, after another
+-- Own.
 -- Pinned by: add.ok
 abbrev pub IsAfter : List ℕ → Option (List ℕ) → Type 0
 IsAfter last None = Unit {0}
@@ -84,6 +88,9 @@ pub record Follows (a b : BlockEnd) : Type 0 where
   pub ordered : internal_cmp first b.last ≢ Greater
   pub begins : b.handle.offset ≡ a.handle.offset + a.handle.size + 5
 
+-- each data block is followed by the next
+-- RocksDB: wiki page "Rocksdb BlockBasedTable Format"
+-- Pinned by: add.ok
 abbrev pub AreFollowed : List BlockEnd → Type 0
 AreFollowed [] = Unit {0}
 AreFollowed (a ∷ []) = Unit {0}

@@ -1,6 +1,6 @@
 -- What a builder of an index holds between its calls: where the data blocks end that were added.
 -- RocksDB: IndexBuilder in table/block_based/index_builder.h.
--- Pinned by: finish.exact
+-- Pinned by: finish.bytes
 use Rattle.std.specs.Prelude.{◌≡◌, ◌⊎◌, ℕ, ◌+◌, ◌-◌, ◌<◌, ◌≤◌, Bool, true, false, List, [], ◌∷◌, ◌++◌, length, take, drop, map, sum_by, All}
 use Rattle.std.specs.List.{flat_map, list_any}
 use Rattle.std.specs.declared.cmp.Ordering.TheVariants.{Less}
@@ -39,7 +39,7 @@ pub record AreOptions (o : IndexOptions) : Type 0 where
 
 -- the builder holds the ends, which were added in this order
 -- Own.
--- Pinned by: finish.exact
+-- Pinned by: finish.bytes
 pub record Holds (b : IndexBuilder) (o : IndexOptions) (ends : List BlockEnd) : Type 0 where
   pub sound : b.failed ≡ false
   pub version_is : b.version ≡ o.version

@@ -9,6 +9,7 @@ use Rattle.sst_index.specs.Top.{HoldsPairs}
 
 -- the partitions of the first `from` pairs stand there, and the top block leads to them
 -- For proofs alone.
+-- Pinned by: finish.bytes
 pub record ArePut (flags : IndexFlags) (interval k base : ℕ) (pairs : List IndexPair) (from : ℕ) (old now : List ℕ) (top : TopBuilder) : Type 0 where
   pub done : List (List IndexPair)
   pub whole : parts_of k pairs ≡ done ++ parts_of k (drop from pairs)

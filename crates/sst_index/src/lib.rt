@@ -68,6 +68,8 @@
 //!   (`IndexRows` of `sst_block`; [`an_index_block_says_its_pairs`]).
 //! - [`IndexBuilder`] takes where the data blocks end, and appends the bytes of their index (`index_bytes`,
 //!   specs/IndexBytes.antt). It tells the flags of the index, and the keys of its top block. It keeps each separator once.
+//! - Each partition says its part of the pairs, and the top block says where each partition stands, by its last separator
+//!   ([`an_index_says_its_pairs`]); the partitions have all pairs ([`partitions_are_the_pairs`]).
 //! - Where memory runs out a call answers so, and so does each later call of that builder that can fail.
 //!
 //! Handles that are differences are not written yet.
