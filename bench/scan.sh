@@ -6,7 +6,7 @@
 # The file has 1,000,000 entries of 16-byte keys and 100-byte values, written by `sst write block` without options. In each
 # round both programs list it to /dev/null, one after the other, and then answer for twenty keys of it, each in a run of its
 # own: `sst get` and `sst_dump` from the key to the next. Of each program the least user and system time counts. What is
-# printed are ratios, and that both list the same is compared once. `scan` takes at most half of the time of sst_dump, or it
+# printed are ratios. That both list what was written is compared once. `scan` takes at most half of the time of sst_dump, or it
 # is a failure, status 1.
 #
 # What it needs beside `sst`: sst_dump (Debian: rocksdb-tools), GNU time, and 1 GB of room in TMPDIR. Where one is missing it
@@ -55,9 +55,11 @@ sst_dump --file="$file" --command=scan --output_hex 2>/dev/null |
 
 # gets COMMAND: each of twenty keys, in a run of its own.
 gets() {
-    local i
+    local i from to
     for ((i = 1; i <= 20; i++)); do
-        "$1" "$(printf '%032x' $((i * 49999 * 7)))" "$(printf '%032x' $((i * 49999 * 7 + 7)))" || return 1
+        printf -v from '%032x' $((i * 49999 * 7))
+        printf -v to '%032x' $((i * 49999 * 7 + 7))
+        "$1" "$from" "$to" || return 1
     done
 }
 our_get() { "$ours" get "$file" "$1" 2000; }

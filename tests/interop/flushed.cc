@@ -4,8 +4,9 @@
 //   flushed file OUT                      a file of SstFileWriter, which has a global sequence number
 //
 // The words of `flush`, and what stands without them: version=2, block=256 (bytes of a data block), restart=16 (rows from one
-// restart to the next), hash=0 (1 for a hash-search index), count=300 entries, keys=300 user keys, each with as many versions as
-// come to it, which snapshots keep, and least=0 bytes of a value.
+// restart to the next, in data blocks and in the index; a hash-search index has a restart for each row), hash=0 (1 for a
+// hash-search index), count=300 entries, keys=300 user keys, each with as many versions as come to it, which snapshots keep, and
+// least=0 bytes of a value.
 //
 // The files aren't compressed and have masked CRC32C checksums. Of `flush` the entry lines are printed as they were
 // written, `USER SEQ KIND VALUE`; the flushed file has them in the order of keys. VIEWS becomes a file of what the database
@@ -67,6 +68,7 @@ rocksdb::Options options_of(const Form &form) {
   table.checksum = rocksdb::kCRC32c;
   table.block_size = form.at("block");
   table.block_restart_interval = static_cast<int>(form.at("restart"));
+  table.index_block_restart_interval = table.block_restart_interval;
   table.filter_policy = nullptr;
   rocksdb::Options options;
   if (form.at("hash") == 1) {
