@@ -13,12 +13,17 @@ use std::rt::Files;
 const PAGE: &str = "\
 usage: sst write block OUT [block=N] < INPUT
        sst calls FILE < INPUT
+       sst get FILE USER SEQ
+       sst scan FILE [SEQ]
 
 write  reads entry lines, USER SEQ KIND VALUE, and writes the block-based table file of their list as OUT
        block=N  a data block with N bytes or more is ended before the next entry;
                 N is 64 to 16777216, and 4096 without the option
 calls  reads call lines, and answers each from FILE: get USER SEQ, first, last, seek USER SEQ,
        seek_for_prev USER SEQ, next, prev
+get    prints the newest entry of the user key in FILE that the snapshot SEQ sees, or none;
+       USER is hex digits, two a byte, or - for the empty key
+scan   prints the entries of FILE, or those of them that the snapshot SEQ sees
 
 docs/USAGE.md says what a line is, what is printed, and what each status stands for.";
 

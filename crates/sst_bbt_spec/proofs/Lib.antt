@@ -8,3 +8,12 @@ pub mod Stands
 pub mod UpToSeparator
 pub mod WayLaws
 pub mod RowsOf
+pub mod MarkFollows
+pub mod PartLaws
+pub mod PartOrder
+pub mod OnePairs
+pub mod PartsLead
+pub mod StandsInParts
+pub mod WholeIndex
+pub mod UserKeys
+pub mod SeparatorsFirst

@@ -18,7 +18,7 @@ use Rattle.sst_bbt_spec.proofs.EntriesOfRows.{rows_of-one}
 use Rattle.sst_bbt_spec.proofs.HandlesOnce.{handle-once}
 
 -- the rows of the framed block at a handle
-framed-one : (form : RowForm) (file : List ℕ) (end : ℕ) (h g : Handle) (x y : List ℕ) (a b : List Row) → h ≡ g
+pub framed-one : (form : RowForm) (file : List ℕ) (end : ℕ) (h g : Handle) (x y : List ℕ) (a b : List Row) → h ≡ g
     → Framed file end h x → Framed file end g y → Block form x a → Block form y b → a ≡ b
 framed-one form file end h g x y a b same at_x at_y left right =
     let there : Framed file end h y = subst (λ (i : Handle). Framed file end i y) (sym same) at_y in
@@ -32,7 +32,7 @@ led-one file end row a b left right =
     let rows = framed-one Entries file end left.handle right.handle left.block right.block (rows_of a) (rows_of b) handles left.framed right.framed left.rows right.rows in
     rows_of-one a b left.seqs right.seqs rows
 
-block-made : (a b : List ℕ) (xs ys : List Entry) → a ≡ b → xs ≡ ys
+pub block-made : (a b : List ℕ) (xs ys : List Entry) → a ≡ b → xs ≡ ys
     → ◌≡◌ {A = IndexedBlock} (record { separator = a; entries = xs }) (record { separator = b; entries = ys })
 block-made a b xs ys same are = rw (same, are) refl
 

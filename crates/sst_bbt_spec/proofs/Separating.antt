@@ -40,12 +40,12 @@ begins-from_all : (separator : List ℕ) (entries : List Entry) → All (IsAfter
 begins-from_all separator [] after = tt
 begins-from_all separator (e ∷ rest) after = All-head (IsAfterSeparator separator) e rest after
 
-after-from_all : (separator : List ℕ) (blocks : List IndexedBlock) → All (IsAfterSeparator separator) (joined blocks) → IsAfterAll separator blocks
+pub after-from_all : (separator : List ℕ) (blocks : List IndexedBlock) → All (IsAfterSeparator separator) (joined blocks) → IsAfterAll separator blocks
 after-from_all separator [] after = tt
 after-from_all separator (block ∷ rest) after =
     begins-from_all separator block.entries (All-front (IsAfterSeparator separator) block.entries (joined rest) after)
 
-separated-from_separate : (blocks : List IndexedBlock) → AreSound blocks → Separate blocks → AreSeparated blocks
+pub separated-from_separate : (blocks : List IndexedBlock) → AreSound blocks → Separate blocks → AreSeparated blocks
 separated-from_separate [] sound apart = tt
 separated-from_separate (block ∷ rest) sound apart =
     (some-upto block.separator block.entries sound.0.some apart.0, after-from_all block.separator rest apart.1, separated-from_separate rest sound.1 apart.2)

@@ -16,12 +16,12 @@ use Rattle.sst_bbt_spec.specs.Runs.{BeginsAfter}
 use Rattle.sst_bbt_spec.specs.Way.{IsUpToSeparator, IsAfterSeparator}
 use Rattle.sst_bbt_spec.proofs.SeparatorOrder.{Before, UpTo, ahead, tagged, weaker, upto-words, after-words}
 
-not-from_le : (r : Ordering) → is_le r ≡ true → r ≢ Greater
+pub not-from_le : (r : Ordering) → is_le r ≡ true → r ≢ Greater
 not-from_le Less is = λ e. cc
 not-from_le Equal is = λ e. cc
 not-from_le Greater is = absurd (cc)
 
-less-from_lt : (r : Ordering) → is_lt r ≡ true → r ≡ Less
+pub less-from_lt : (r : Ordering) → is_lt r ≡ true → r ≡ Less
 less-from_lt Less is = refl
 less-from_lt Equal is = cc
 less-from_lt Greater is = cc

@@ -77,18 +77,18 @@ passed-counts is_before test (block ∷ rest) f apart seqs =
 
 -- ---- the three landings
 
-seek-follows : (user : List ℕ) (seq : ℕ) → Follows (is_separator_before user (seek_tag seq)) (is_before_target user seq)
+pub seek-follows : (user : List ℕ) (seq : ℕ) → Follows (is_separator_before user (seek_tag seq)) (is_before_target user seq)
 seek-follows user seq = record { ahead = seek-ahead user seq; behind = seek-behind user seq }
 
-prev-follows : (user : List ℕ) (seq : ℕ) → Follows (is_separator_before user (seek_for_prev_tag seq)) (is_up_to_target user seq)
+pub prev-follows : (user : List ℕ) (seq : ℕ) → Follows (is_separator_before user (seek_for_prev_tag seq)) (is_up_to_target user seq)
 prev-follows user seq = record { ahead = prev-ahead user seq; behind = prev-behind user seq }
 
-seek-lands : (entries : List Entry) (user : List ℕ) (seq : ℕ) (n : Option ℕ) → Counts n (is_before_target user seq) entries
+pub seek-lands : (entries : List Entry) (user : List ℕ) (seq : ℕ) (n : Option ℕ) → Counts n (is_before_target user seq) entries
     → option_and_then (λ n. place_in entries n) n ≡ seek_of entries user seq
 seek-lands entries user seq None many = sym (in-no_place entries (below entries user seq) (omega (arith, many)))
 seek-lands entries user seq (Some n) many = ap (place_in entries) many
 
-prev-lands : (entries : List Entry) (user : List ℕ) (seq : ℕ) (n : Option ℕ) → Counts n (is_up_to_target user seq) entries
+pub prev-lands : (entries : List Entry) (user : List ℕ) (seq : ℕ) (n : Option ℕ) → Counts n (is_up_to_target user seq) entries
     → last_passed entries n ≡ seek_for_prev_of entries user seq
 prev-lands entries user seq None many = ap place_before (sym many)
 prev-lands entries user seq (Some n) many = ap place_before many

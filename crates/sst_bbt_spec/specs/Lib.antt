@@ -3,3 +3,9 @@ pub mod Way
 pub mod Runs
 pub mod BlockBased
 pub mod Reached
+pub mod Parts
+pub mod Mark
+pub mod PartWay
+pub mod PartRuns
+pub mod PartsOpen
+pub mod WorkedTrees

@@ -53,9 +53,19 @@
 //! table/block_based/index_builder.h.
 #![tactic(auto)]
 
+mod form_laws;
 mod laws;
+mod part_laws;
 
+pub use form_laws::{
+    a_separated_tree_runs, a_whole_index_is_parts_of_one_block, an_index_leads_to_one_tree,
+    what_stands_in_parts_is_ordered,
+};
 pub use laws::{
     a_file_stands_for_one_list, a_file_that_stands_is_separated, a_key_between_separates,
     a_separated_file_stands, the_way_is_the_lists, what_a_file_stands_for_is_ordered,
+};
+pub use part_laws::{
+    separators_before_a_target_come_first, the_tree_decides, the_way_over_parts_is_the_lists,
+    user_keys_are_compared_alone,
 };

@@ -1,5 +1,5 @@
 -- A row with a fault is read as that fault.
-use Rattle.std.proofs.Common.{◌≡◌, ℕ, ◌&&◌, nat_lt, if◌then◌else◌, Bool, true, false, List, [], length, drop, Option, Some, None, Err, inl, inr, refl, sym, ap, ◌∙◌}
+use Rattle.std.proofs.Common.{not, ◌≤◌, ℕ, ◌≡◌, ◌&&◌, nat_lt, if◌then◌else◌, Bool, true, false, List, [], length, drop, Option, Some, None, Err, inl, inr, refl, sym, ap, ◌∙◌}
 use Rattle.std.proofs.lemmas.Bool.{ltb-false, le-ltb, cases_Bool, cond-true, false_from_ne_true}
 use Rattle.sst_block.specs.declared.row_form.RowForm.{RowForm}
 use Rattle.sst_block.specs.declared.row_form.RowForm.TheVariants.{Entries, Names, Index}
@@ -13,7 +13,7 @@ use Rattle.sst_block.proofs.Follows.{last_of, last-key, ordered-push}
 use Rattle.sst_block.proofs.RowAt.{row_at-found}
 use Rattle.sst_block.proofs.RowFaults.{good-lengths, row-read}
 use Rattle.sst_block.proofs.Spellings.{spells-plain}
-use Rattle.sst_block.proofs.RowForms.{internal_key-passes, internal_key-from, handle-passes, handle-from}
+use Rattle.sst_block.proofs.RowForms.{internal_key-passes, internal_key-from, handle-passes, handle-from, index-handle}
 
 -- the second or the third of three tests fails
 form-fails : (short formed after : Bool) (f g h : BlockFault) → short ≡ false → formed ≡ false
@@ -54,12 +54,17 @@ bad-kind before key at bytes s row not =
     (form-fails (nat_lt (length s.row.key) 8) (is_internal_key s.row.key) (is_after Entries before s.row.key) (BadRow at) (BadKind at) (Disorder at)
     (le-ltb (length s.row.key) 8 (row.lengths.tagged refl)) (false_from_ne_true (is_internal_key s.row.key) (λ is. not (internal_key-from s.row.key is))))
 
-bad-handle : (before : Option (List ℕ)) (key : List ℕ) (at : ℕ) (bytes : List ℕ) (s : Spelled) → BeginsRow (Index false false) key bytes s
-    → (IsHandle s.row.value → ⊥) → sound_row (Index false false) at before (row_at key bytes) ≡ Err (BadHandle at)
-bad-handle before key at bytes s row not =
-    row-says (Index false false) before key at bytes s (BadHandle at) tt row
-    (form-fails (nat_lt (length s.row.key) 8) (is_handle s.row.value) (is_after (Index false false) before s.row.key) (BadRow at) (BadHandle at) (Disorder at)
-    (le-ltb (length s.row.key) 8 (row.lengths.tagged refl)) (false_from_ne_true (is_handle s.row.value) (λ is. not (handle-from s.row.value is))))
+-- a key has room for the tag that it has
+tag-fits : (tag : Bool) (n : ℕ) → (tag ≡ true → 8 ≤ n) → (tag && nat_lt n 8) ≡ false
+tag-fits true n tagged = le-ltb n 8 (tagged refl)
+tag-fits false n tagged = refl
+
+bad-handle : (user_key : Bool) (before : Option (List ℕ)) (key : List ℕ) (at : ℕ) (bytes : List ℕ) (s : Spelled) → BeginsRow (Index user_key false) key bytes s
+    → (IsHandle s.row.value → ⊥) → sound_row (Index user_key false) at before (row_at key bytes) ≡ Err (BadHandle at)
+bad-handle user_key before key at bytes s row none =
+    row-says (Index user_key false) before key at bytes s (BadHandle at) tt row
+    (form-fails (not user_key && nat_lt (length s.row.key) 8) (is_handle s.row.value) (is_after (Index user_key false) before s.row.key) (BadRow at) (BadHandle at) (Disorder at)
+    (tag-fits (not user_key) (length s.row.key) row.lengths.tagged) (false_from_ne_true (is_handle s.row.value) (λ is. none (handle-from s.row.value is))))
 
 disorder : (form : RowForm) (before : Option (List ℕ)) (key : List ℕ) (at : ℕ) (bytes : List ℕ) (s : Spelled) → HasNoFlags form
     → BeginsRow form key bytes s → HasForm form s.row → is_after form before s.row.key ≡ false
@@ -71,21 +76,19 @@ disorder Entries before key at bytes s plain row formed unordered =
 disorder Names before key at bytes s plain row formed unordered =
     row-says Names before key at bytes s (Disorder at) tt row
     (order-fails false true (is_after Names before s.row.key) (BadRow at) (BadRow at) (Disorder at) refl refl unordered)
-disorder (Index true delta) before key at bytes s plain row formed unordered = absurd plain
-disorder (Index false true) before key at bytes s plain row formed unordered = absurd plain
-disorder (Index false false) before key at bytes s plain row formed unordered =
-    row-says (Index false false) before key at bytes s (Disorder at) tt row
-    (order-fails (nat_lt (length s.row.key) 8) (is_handle s.row.value) (is_after (Index false false) before s.row.key) (BadRow at) (BadHandle at) (Disorder at)
-    (le-ltb (length s.row.key) 8 (row.lengths.tagged refl)) (handle-passes s.row.value formed.1) unordered)
+disorder (Index user_key true) before key at bytes s plain row formed unordered = absurd plain
+disorder (Index user_key false) before key at bytes s plain row formed unordered =
+    row-says (Index user_key false) before key at bytes s (Disorder at) tt row
+    (order-fails (not user_key && nat_lt (length s.row.key) 8) (is_handle s.row.value) (is_after (Index user_key false) before s.row.key) (BadRow at) (BadHandle at) (Disorder at)
+    (tag-fits (not user_key) (length s.row.key) row.lengths.tagged) (handle-passes s.row.value (index-handle user_key s.row formed)) unordered)
 
 handles-faulty : (form : RowForm) (good : List Spelled) (at : ℕ) (bytes : List ℕ) → HasNoFlags form → IsRowFault form good at bytes (BadHandle at)
     → sound_row form at (last_of None (rows_spelled good)) (row_at (last_key [] (rows_spelled good)) bytes) ≡ Err (BadHandle at)
 handles-faulty Entries good at bytes plain is = absurd is.1
 handles-faulty Names good at bytes plain is = absurd is.1
-handles-faulty (Index true delta) good at bytes plain is = absurd plain
-handles-faulty (Index false true) good at bytes plain is = absurd plain
-handles-faulty (Index false false) good at bytes plain is =
-    bad-handle (last_of None (rows_spelled good)) (last_key [] (rows_spelled good)) at bytes is.2.0 is.2.1 is.2.2
+handles-faulty (Index user_key true) good at bytes plain is = absurd plain
+handles-faulty (Index user_key false) good at bytes plain is =
+    bad-handle user_key (last_of None (rows_spelled good)) (last_key [] (rows_spelled good)) at bytes is.2.0 is.2.1 is.2.2
 
 kinds-faulty : (form : RowForm) (good : List Spelled) (at : ℕ) (bytes : List ℕ) → IsRowFault form good at bytes (BadKind at)
     → sound_row form at (last_of None (rows_spelled good)) (row_at (last_key [] (rows_spelled good)) bytes) ≡ Err (BadKind at)

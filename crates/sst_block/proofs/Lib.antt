@@ -28,8 +28,10 @@ pub mod Walking
 pub mod Accepted
 pub mod Tails
 pub mod KeyRooms
+pub mod KeyOrder
 pub mod Halves
 pub mod NextRow
 pub mod RestartPlaces
 pub mod Forward
 pub mod Back
+pub mod Seeking

@@ -4,6 +4,7 @@ use Rattle.std.proofs.lemmas.List.Elements.{All-weaker}
 use Rattle.sst_block.specs.declared.row_form.RowForm.{RowForm}
 use Rattle.sst_block.specs.declared.row_form.RowForm.TheVariants.{Entries, Names, Index}
 use Rattle.sst_block.specs.declared.fault.BlockFault.{BlockFault}
+use Rattle.sst_block.specs.Iter.{OrdersAs}
 use Rattle.sst_block.specs.Block.{Row, Spelled, Block, IsRow, AreOrdered, SpellsLengths, restarts_spelling, key_cmp}
 use Rattle.sst_block.specs.Builder.{HasNoFlags}
 use Rattle.sst_block.specs.BlockReading.{block_read, Reads}
@@ -67,20 +68,23 @@ block-as form other bytes rows same weaker spells block =
 pub one-list : (form : RowForm) (bytes : List ℕ) (a b : List Row) → Block form bytes a → Block form bytes b → a ≡ b
 one-list Entries bytes a b left right = plain-one Entries bytes a b tt left right
 one-list Names bytes a b left right = plain-one Names bytes a b tt left right
-one-list (Index false false) bytes a b left right = plain-one (Index false false) bytes a b tt left right
+one-list (Index user_key false) bytes a b left right = plain-one (Index user_key false) bytes a b tt left right
 one-list (Index false true) bytes a b left right =
     let plain = λ (rows : List Row). block-as (Index false true) (Index false false) bytes rows (λ a b. refl) (λ row is. (is.0, absurd is.1)) tt in
     plain-one (Index false false) bytes a b tt (plain a left) (plain b right)
-one-list (Index true delta) bytes a b left right =
-    let plain = λ (rows : List Row). block-as (Index true delta) Names bytes rows (λ a b. refl) (λ row is. (is.0, tt)) tt in
+one-list (Index true true) bytes a b left right =
+    let plain = λ (rows : List Row). block-as (Index true true) Names bytes rows (λ a b. refl) (λ row is. (is.0, tt)) tt in
     plain-one Names bytes a b tt (plain a left) (plain b right)
 
+pub same-orders : (form : RowForm) → OrdersAs form form
+same-orders form = record { order = λ a b. refl; tag = refl }
+
 -- a block of any form is one of a form that spells the lengths of values
-pub block-plain : (form : RowForm) (bytes : List ℕ) (rows : List Row) → Block form bytes rows → (plain : RowForm) × SpellsLengths plain × Block plain bytes rows
-block-plain Entries bytes rows block = (Entries, tt, block)
-block-plain Names bytes rows block = (Names, tt, block)
-block-plain (Index false false) bytes rows block = (Index false false, tt, block)
+pub block-plain : (form : RowForm) (bytes : List ℕ) (rows : List Row) → Block form bytes rows → (plain : RowForm) × SpellsLengths plain × Block plain bytes rows × OrdersAs form plain
+block-plain Entries bytes rows block = (Entries, tt, block, same-orders Entries)
+block-plain Names bytes rows block = (Names, tt, block, same-orders Names)
+block-plain (Index user_key false) bytes rows block = (Index user_key false, tt, block, same-orders (Index user_key false))
 block-plain (Index false true) bytes rows block =
-    (Index false false, tt, block-as (Index false true) (Index false false) bytes rows (λ a b. refl) (λ row is. (is.0, absurd is.1)) tt block)
-block-plain (Index true delta) bytes rows block =
-    (Names, tt, block-as (Index true delta) Names bytes rows (λ a b. refl) (λ row is. (is.0, tt)) tt block)
+    (Index false false, tt, block-as (Index false true) (Index false false) bytes rows (λ a b. refl) (λ row is. (is.0, absurd is.1)) tt block, record { order = λ a b. refl; tag = refl })
+block-plain (Index true true) bytes rows block =
+    (Names, tt, block-as (Index true true) Names bytes rows (λ a b. refl) (λ row is. (is.0, tt)) tt block, record { order = λ a b. refl; tag = refl })

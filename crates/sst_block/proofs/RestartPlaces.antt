@@ -136,7 +136,7 @@ some-told k n (inr within) = lt-ltb k n within ∙ sym (lt-ltb 0 n (omega (arith
 pub restart-in : (old new : BlockIter) (told : Bool) (form : RowForm) (bytes : List ℕ) (rows : List Row) (b : Block form bytes rows) (place : Option ℕ) (i start : ℕ)
     → WalksIn old form bytes rows b place → StaysIn old new → i < length b.restarts → restart_at old.places.now i ≡ Some start
     → Moves new told [] (drop start old.rows.now)
-    → ((k : ℕ) × (slice_get b.restarts i ≡ Some (start_of form b.spelled k)) × WalksIn new form bytes rows b (place_of rows k) × (told ≡ nat_lt k (length rows)))
+    → ((k : ℕ) × (slice_get b.restarts i ≡ Some (start_of form b.spelled k)) × WalksIn new form bytes rows b (place_of rows k) × (told ≡ nat_lt k (length rows)) × ((k ≡ 0) ⊎ (k < length rows)))
     × (told ≡ nat_lt 0 (length rows))
 restart-in old new told form bytes rows b place i start w stays within read m =
     let found = restart-found old form bytes rows b place i w within in
@@ -146,7 +146,7 @@ restart-in old new told form bytes rows b place i start w stays within read m =
     let moved = step-place old new told form bytes rows b place row.k [] (drop start old.rows.now) w stays next m in
     let many = length-rows form bytes rows b in
     let first : (row.k ≡ 0) ⊎ (row.k < length rows) = subst (λ (n : ℕ). (row.k ≡ 0) ⊎ (row.k < n)) (sym many) row.first in
-    ((row.k, row.at, moved.0, moved.1), moved.1 ∙ some-told row.k (length rows) first)
+    ((row.k, row.at, moved.0, moved.1, first), moved.1 ∙ some-told row.k (length rows) first)
 
 -- the last restart is one
 pub last_restart : (it : BlockIter) (form : RowForm) (bytes : List ℕ) (rows : List Row) (b : Block form bytes rows) (place : Option ℕ) → WalksIn it form bytes rows b place

@@ -1,5 +1,5 @@
 -- The fault that is read of a row is the first that the row has.
-use Rattle.std.proofs.Common.{◌≡◌, ℕ, ◌<◌, ◌≤◌, nat_lt, if◌then◌else◌, Bool, true, false, List, [], ◌++◌, length, drop, Option, Some, None, Err, refl, sym, subst, ap, ◌∙◌, arith}
+use Rattle.std.proofs.Common.{not, ◌&&◌, ◌≡◌, ℕ, ◌<◌, ◌≤◌, nat_lt, if◌then◌else◌, Bool, true, false, List, [], ◌++◌, length, drop, Option, Some, None, Err, refl, sym, subst, ap, ◌∙◌, arith}
 use Rattle.std.proofs.lemmas.Bool.{ltb-true, ltb-false, both_ways}
 use Rattle.sst_block.specs.declared.row_form.RowForm.{RowForm}
 use Rattle.sst_block.specs.declared.row_form.RowForm.TheVariants.{Entries, Names, Index}
@@ -12,7 +12,7 @@ use Rattle.sst_block.specs.BlockReading.{has_tag, is_internal_key, is_handle, is
 use Rattle.sst_block.proofs.Follows.{last_of, last-key, ordered-last}
 use Rattle.sst_block.proofs.RowAt.{row_at-spelled, row_at-found, RowStands}
 use Rattle.sst_block.proofs.Spellings.{spells-plain}
-use Rattle.sst_block.proofs.RowForms.{internal_key-passes, internal_key-from, handle-passes, handle-from}
+use Rattle.sst_block.proofs.RowForms.{internal_key-passes, internal_key-from, handle-passes, handle-from, index-form}
 
 -- the first of three tests that failed
 data FirstFailed (short formed after : Bool) (f g h fault : BlockFault) : Type 0 where
@@ -95,30 +95,41 @@ entries-fault good at bytes r fault failing (order_failed long formed unordered 
       ),
     )
 
-handles-fault : (good : List Spelled) (at : ℕ) (bytes : List ℕ) (r : Spelled × ℕ) (fault : BlockFault) → Failing (Index false false) good at bytes r
-    → FirstFailed (nat_lt (length r.0.row.key) 8) (is_handle r.0.row.value) (is_after (Index false false) (last_of None (rows_spelled good)) r.0.row.key) (BadRow at) (BadHandle at) (Disorder at) fault
-    → IsRowFault (Index false false) good at bytes fault
-handles-fault good at bytes r fault failing (lengths_failed short is) =
-    subst (λ (f : BlockFault). IsRowFault (Index false false) good at bytes f) is
-    (refl, no-tag (Index false false) (last_key [] (rows_spelled good)) bytes r tt failing.read refl (ltb-true (length r.0.row.key) 8 short))
-handles-fault good at bytes r fault failing (form_failed long misformed is) =
-    subst (λ (f : BlockFault). IsRowFault (Index false false) good at bytes f) is (
+-- a key that is too short for the tag that it has
+tag-missing : (tag : Bool) (n : ℕ) → (tag && nat_lt n 8) ≡ true → (tag ≡ true) × (n < 8)
+tag-missing true n is = (refl, ltb-true n 8 is)
+tag-missing false n is = cc
+
+-- and one that isn't
+pub tag-there : (tag : Bool) (n : ℕ) → (tag && nat_lt n 8) ≡ false → tag ≡ true → 8 ≤ n
+tag-there true n is tagged = ltb-false n 8 is
+tag-there false n is tagged = cc
+
+handles-fault : (user_key : Bool) (good : List Spelled) (at : ℕ) (bytes : List ℕ) (r : Spelled × ℕ) (fault : BlockFault) → Failing (Index user_key false) good at bytes r
+    → FirstFailed (not user_key && nat_lt (length r.0.row.key) 8) (is_handle r.0.row.value) (is_after (Index user_key false) (last_of None (rows_spelled good)) r.0.row.key) (BadRow at) (BadHandle at) (Disorder at) fault
+    → IsRowFault (Index user_key false) good at bytes fault
+handles-fault user_key good at bytes r fault failing (lengths_failed short is) =
+    let parts = tag-missing (not user_key) (length r.0.row.key) short in
+    subst (λ (f : BlockFault). IsRowFault (Index user_key false) good at bytes f) is
+    (refl, no-tag (Index user_key false) (last_key [] (rows_spelled good)) bytes r tt failing.read parts.0 parts.1)
+handles-fault user_key good at bytes r fault failing (form_failed long misformed is) =
+    subst (λ (f : BlockFault). IsRowFault (Index user_key false) good at bytes f) is (
       refl,
       tt,
       (
         r.0,
-        begins (Index false false) (last_key [] (rows_spelled good)) bytes r.0 r.1 failing.stands (λ tag. ltb-false (length r.0.row.key) 8 long),
+        begins (Index user_key false) (last_key [] (rows_spelled good)) bytes r.0 r.1 failing.stands (tag-there (not user_key) (length r.0.row.key) long),
         λ handle. both_ways (is_handle r.0.row.value) misformed (handle-passes r.0.row.value handle),
       ),
     )
-handles-fault good at bytes r fault failing (order_failed long formed unordered is) =
-    subst (λ (f : BlockFault). IsRowFault (Index false false) good at bytes f) is (
+handles-fault user_key good at bytes r fault failing (order_failed long formed unordered is) =
+    subst (λ (f : BlockFault). IsRowFault (Index user_key false) good at bytes f) is (
       refl,
       (
         r.0,
-        begins (Index false false) (last_key [] (rows_spelled good)) bytes r.0 r.1 failing.stands (λ tag. ltb-false (length r.0.row.key) 8 long),
-        (ltb-false (length r.0.row.key) 8 long, handle-from r.0.row.value formed),
-        λ ordered. both_ways (is_after (Index false false) (last_of None (rows_spelled good)) r.0.row.key) unordered (ordered-last (Index false false) (rows_spelled good) r.0.row ordered),
+        begins (Index user_key false) (last_key [] (rows_spelled good)) bytes r.0 r.1 failing.stands (tag-there (not user_key) (length r.0.row.key) long),
+        index-form user_key r.0.row long (handle-from r.0.row.value formed),
+        λ ordered. both_ways (is_after (Index user_key false) (last_of None (rows_spelled good)) r.0.row.key) unordered (ordered-last (Index user_key false) (rows_spelled good) r.0.row ordered),
       ),
     )
 
@@ -144,10 +155,9 @@ some-row-fault Entries good at bytes r fault plain failing is =
     entries-fault good at bytes r fault failing (tests-failed _ _ _ _ _ _ fault is)
 some-row-fault Names good at bytes r fault plain failing is =
     names-fault good at bytes r fault failing (tests-failed false true (is_after Names (last_of None (rows_spelled good)) r.0.row.key) (BadRow at) (BadRow at) (Disorder at) fault is)
-some-row-fault (Index true delta) good at bytes r fault plain failing is = absurd plain
-some-row-fault (Index false true) good at bytes r fault plain failing is = absurd plain
-some-row-fault (Index false false) good at bytes r fault plain failing is =
-    handles-fault good at bytes r fault failing (tests-failed _ _ _ _ _ _ fault is)
+some-row-fault (Index user_key true) good at bytes r fault plain failing is = absurd plain
+some-row-fault (Index user_key false) good at bytes r fault plain failing is =
+    handles-fault user_key good at bytes r fault failing (tests-failed (not user_key && nat_lt (length r.0.row.key) 8) (is_handle r.0.row.value) _ _ _ _ fault is)
 
 read-fault : (form : RowForm) (good : List Spelled) (at : ℕ) (bytes : List ℕ) (read : Option (Spelled × ℕ)) (fault : BlockFault) → HasNoFlags form
     → row_at (last_key [] (rows_spelled good)) bytes ≡ read → sound_row form at (last_of None (rows_spelled good)) read ≡ Err fault

@@ -1,5 +1,5 @@
 -- What reading asks of a row's key and value is what the form of the block says of them.
-use Rattle.std.proofs.Common.{◌≡◌, ℕ, ◌+◌, ◌-◌, ◌/◌, ◌%◌, ◌^◌, ◌<◌, ◌≤◌, nat_lt, ◌==◌, if◌then◌else◌, Bool, true, false, List, [], ◌++◌, length, length-append, length-drop, take, drop, append-nil, Option, Some, None, inl, inr, refl, sym, subst, ap, ◌∙◌, arith}
+use Rattle.std.proofs.Common.{not, ◌&&◌, ◌≡◌, ℕ, ◌+◌, ◌-◌, ◌/◌, ◌%◌, ◌^◌, ◌<◌, ◌≤◌, nat_lt, ◌==◌, if◌then◌else◌, Bool, true, false, List, [], ◌++◌, length, length-append, length-drop, take, drop, append-nil, Option, Some, None, inl, inr, refl, sym, subst, ap, ◌∙◌, arith}
 use Rattle.std.specs.Option.{option_map, is_some}
 use Rattle.std.proofs.lemmas.Bool.{cases_lt, lt-ltb, le-ltb, ltb-false, eqb-true, eq-eqb, and_parts, and_from}
 use Rattle.std.proofs.lemmas.List.{take-append-drop, take_all, nil_from_length}
@@ -57,7 +57,7 @@ some-is (Some x) is = (x, refl)
 last-eight : (user : List ℕ) (t : ℕ) → drop (length (user ++ fixed 8 t) - 8) (user ++ fixed 8 t) ≡ fixed 8 t
 last-eight user t = ap (λ (n : ℕ). drop n (user ++ fixed 8 t)) (user_length user t) ∙ drop-front user (fixed 8 t)
 
-length-key : (user : List ℕ) (t : ℕ) → 8 ≤ length (user ++ fixed 8 t)
+pub length-key : (user : List ℕ) (t : ℕ) → 8 ≤ length (user ++ fixed 8 t)
 length-key user t = omega (arith, length-append user (fixed 8 t), length-fixed 8 t)
 
 parts-are : (key : List ℕ) (kind : Kind) → 8 ≤ length key → kind_numbered (kind_byte key) ≡ Some kind
@@ -158,6 +158,19 @@ order-passed : (after : Bool) (h : BlockFault) → (if after then None else Some
 order-passed true h is = refl
 order-passed false h is = cc
 
+-- what an index asks of a row: its key has room for the tag that it has, and its value is a handle
+pub index-long : (user_key : Bool) (row : Row) → HasForm (Index user_key false) row → (not user_key && nat_lt (length row.key) 8) ≡ false
+index-long true row is = refl
+index-long false row is = le-ltb (length row.key) 8 is.0
+
+pub index-handle : (user_key : Bool) (row : Row) → HasForm (Index user_key false) row → IsHandle row.value
+index-handle true row is = is
+index-handle false row is = is.1
+
+pub index-form : (user_key : Bool) (row : Row) → (not user_key && nat_lt (length row.key) 8) ≡ false → IsHandle row.value → HasForm (Index user_key false) row
+index-form true row long is = is
+index-form false row long is = (ltb-false (length row.key) 8 long, is)
+
 -- a row of the form that is after the one before has no fault
 pub row-passes : (form : RowForm) (at : ℕ) (before : Option (List ℕ)) (row : Row) → HasNoFlags form → HasForm form row
     → is_after form before row.key ≡ true → row_fault form at before row ≡ None
@@ -166,11 +179,10 @@ row-passes Entries at before row plain is after =
     tests-pass (nat_lt (length row.key) 8) (is_internal_key row.key) (is_after Entries before row.key) (BadRow at) (BadKind at) (Disorder at)
     (le-ltb (length row.key) 8 long) (internal_key-passes row.key is) after
 row-passes Names at before row plain is after = rw after refl
-row-passes (Index true delta) at before row plain is after = absurd plain
-row-passes (Index false true) at before row plain is after = absurd plain
-row-passes (Index false false) at before row plain is after =
-    tests-pass (nat_lt (length row.key) 8) (is_handle row.value) (is_after (Index false false) before row.key) (BadRow at) (BadHandle at) (Disorder at)
-    (le-ltb (length row.key) 8 is.0) (handle-passes row.value is.1) after
+row-passes (Index user_key true) at before row plain is after = absurd plain
+row-passes (Index user_key false) at before row plain is after =
+    tests-pass (not user_key && nat_lt (length row.key) 8) (is_handle row.value) (is_after (Index user_key false) before row.key) (BadRow at) (BadHandle at) (Disorder at)
+    (index-long user_key row is) (handle-passes row.value (index-handle user_key row is)) after
 
 -- a row without a fault has the form and is after the one before
 pub row-from : (form : RowForm) (at : ℕ) (before : Option (List ℕ)) (row : Row) → HasNoFlags form
@@ -179,8 +191,7 @@ row-from Entries at before row plain is =
     let tests = tests-passed (nat_lt (length row.key) 8) (is_internal_key row.key) (is_after Entries before row.key) (BadRow at) (BadKind at) (Disorder at) is in
     (internal_key-from row.key tests.1, tests.2)
 row-from Names at before row plain is = (tt, order-passed (is_after Names before row.key) (Disorder at) is)
-row-from (Index true delta) at before row plain is = absurd plain
-row-from (Index false true) at before row plain is = absurd plain
-row-from (Index false false) at before row plain is =
-    let tests = tests-passed (nat_lt (length row.key) 8) (is_handle row.value) (is_after (Index false false) before row.key) (BadRow at) (BadHandle at) (Disorder at) is in
-    ((ltb-false (length row.key) 8 tests.0, handle-from row.value tests.1), tests.2)
+row-from (Index user_key true) at before row plain is = absurd plain
+row-from (Index user_key false) at before row plain is =
+    let tests = tests-passed (not user_key && nat_lt (length row.key) 8) (is_handle row.value) (is_after (Index user_key false) before row.key) (BadRow at) (BadHandle at) (Disorder at) is in
+    (index-form user_key row tests.0 (handle-from row.value tests.1), tests.2)

@@ -20,9 +20,8 @@ value_length-spelled (Index user_key true) value spells = absurd spells
 pub spells-plain : (form : RowForm) → HasNoFlags form → SpellsLengths form
 spells-plain Entries plain = tt
 spells-plain Names plain = tt
-spells-plain (Index false false) plain = tt
-spells-plain (Index false true) plain = absurd plain
-spells-plain (Index true delta) plain = absurd plain
+spells-plain (Index user_key false) plain = tt
+spells-plain (Index user_key true) plain = absurd plain
 
 -- so has each form that a row has
 pub spells-row : (form : RowForm) (row : Row) → HasForm form row → SpellsLengths form

@@ -8,7 +8,7 @@ use Rattle.sst_block.specs.Block.{Row, Spelled, Block, SpellsLengths, row_spelli
 use Rattle.sst_block.specs.BlockReading.{row_at, restart_count, rows_end}
 use Rattle.std.specs.List.{flat_map}
 use Rattle.sst_block.proofs.Halves.{split-block}
-use Rattle.sst_block.specs.Iter.{Walks, WalksIn, IsAt, HasTaken, StaysIn, place_of, start_of}
+use Rattle.sst_block.specs.Iter.{Walks, WalksIn, OrdersAs, IsAt, HasTaken, StaysIn, place_of, start_of}
 use Rattle.sst_block.proofs.NextRow.{Awaits, next-row, none-next, fronts-behind, length-rows, row-spelled, rows-left, drop-at}
 
 -- one row on: the walk shows the row at the front of the bytes, or there is none
@@ -29,6 +29,7 @@ stays-in old new form bytes rows b place next w stays at =
       places_are = stays.places ∙ w.places_are;
       count = stays.count ∙ w.count;
       spells = w.spells;
+      orders = subst (λ (f : RowForm). OrdersAs f form) (sym stays.form) w.orders;
       is_at = at;
     }
 
@@ -109,9 +110,9 @@ pub record IsSplit (it : BlockIter) (block : List ℕ) (count : ℕ) : Type 0 wh
   pub count_is : it.count ≡ count
 
 -- a walk that begins over the halves of a block stands nowhere
-pub starts-in : (it : BlockIter) (form : RowForm) (bytes : List ℕ) (rows : List Row) (b : Block form bytes rows) → SpellsLengths form
+pub starts-in : (it : BlockIter) (form : RowForm) (bytes : List ℕ) (rows : List Row) (b : Block form bytes rows) → SpellsLengths form → OrdersAs it.form form
     → ((count : ℕ) → restart_count bytes ≡ Some count → IsSplit it bytes count) → it.stands ≡ false → WalksIn it form bytes rows b None
-starts-in it form bytes rows b spells halves nowhere =
+starts-in it form bytes rows b spells same halves nowhere =
     let split = split-block form bytes rows b in
     let found = halves (length b.restarts) split.counted in
     record {
@@ -119,6 +120,7 @@ starts-in it form bytes rows b spells halves nowhere =
       places_are = found.places ∙ split.back;
       count = found.count_is;
       spells = spells;
+      orders = same;
       is_at = nowhere;
     }
 

@@ -85,7 +85,7 @@ AreRestarts form restarts (s ∷ rest) =
 
 -- the order of the keys of a block: of stored keys, or bytewise
 -- RocksDB: db/dbformat.h
--- Pinned by: sound_blocks, faulty_blocks, calls_on_versions, nothing yet (of user keys in an index)
+-- Pinned by: sound_blocks, faulty_blocks, calls_on_versions
 abbrev pub key_cmp : RowForm → List ℕ → List ℕ → Ordering
 key_cmp Entries a b = internal_cmp a b
 key_cmp Names a b = slice_cmp nat_cmp a b
@@ -114,7 +114,7 @@ IsHandle value = (h : Handle) × (h.offset < 2 ^ 64) × (h.size < 2 ^ 64) × (va
 -- the row has the form: its key, and its value where the form says something of it. What the values are of index
 -- blocks with differences of handles isn't said yet: no row has that form.
 -- Own.
--- Pinned by: reading_finds_exactly_the_rows, faulty_blocks, handles, nothing yet (of an index with user keys)
+-- Pinned by: reading_finds_exactly_the_rows, faulty_blocks, handles
 abbrev pub HasForm : RowForm → Row → Type 0
 HasForm Entries row = IsInternalKey row.key
 HasForm Names row = Unit {0}

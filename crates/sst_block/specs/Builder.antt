@@ -11,15 +11,14 @@ use Rattle.sst_block.specs.declared.builder.BlockBuilder.{BlockBuilder}
 use Rattle.sst_block.specs.Block.{Row, Spelled, common, row_spelling, IsRow, AreOrdered}
 use Rattle.sst_block.specs.Chosen.{chosen, restarts_of, block_of}
 
--- the form has no flags: its keys are stored whole and its handles stand as they are
+-- the form has no differences: each row spells the length of its value, and its handles stand as they are
 -- Own, for now.
 -- Pinned by: sound_blocks (too strict), reading_finds_exactly_the_rows.sound (too loose)
 abbrev pub HasNoFlags : RowForm → Type 0
 HasNoFlags Entries = Unit {0}
 HasNoFlags Names = Unit {0}
-HasNoFlags (Index false false) = Unit {0}
-HasNoFlags (Index false true) = ⊥
-HasNoFlags (Index true delta) = ⊥
+HasNoFlags (Index user_key false) = Unit {0}
+HasNoFlags (Index user_key true) = ⊥
 
 -- the key of the last row; `before` is the key before the rows
 -- Own.

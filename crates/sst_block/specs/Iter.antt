@@ -5,7 +5,8 @@ use Rattle.std.specs.List.{flat_map}
 use Rattle.sst_num.specs.NumberReading.{fixed_at}
 use Rattle.sst_block.specs.declared.row_form.RowForm.{RowForm}
 use Rattle.sst_block.specs.declared.iter.BlockIter.{BlockIter}
-use Rattle.sst_block.specs.Block.{Row, Spelled, Block, SpellsLengths, row_spelling, restarts_spelling}
+use Rattle.sst_block.specs.Block.{Row, Spelled, Block, SpellsLengths, row_spelling, restarts_spelling, key_cmp}
+use Rattle.sst_block.specs.BlockReading.{has_tag}
 
 -- where the i-th row begins in the block: behind the rows before it
 -- RocksDB: block.h, current_
@@ -29,6 +30,13 @@ abbrev pub IsAt : BlockIter → RowForm → List Spelled → Option ℕ → Type
 IsAt it form spelled None = it.stands ≡ false
 IsAt it form spelled (Some i) = (s : Spelled) × (slice_get spelled i ≡ Some s) × Shows it form s (drop (i + 1) spelled)
 
+-- two forms whose keys have one order, and a tag or none alike
+-- For proofs alone.
+-- Pinned by: seek.within
+pub record OrdersAs (one other : RowForm) : Type 0 where
+  pub order : (a b : List ℕ) → key_cmp one a b ≡ key_cmp other a b
+  pub tag : has_tag one ≡ has_tag other
+
 -- the walk goes over this block, and stands at the place. Which block it is says more than its rows: how they are
 -- spelled, and which of them are restarts.
 -- Pinned by: row_start, restarts, at_restart.within
@@ -37,6 +45,7 @@ pub record WalksIn (it : BlockIter) (form : RowForm) (bytes : List ℕ) (rows : 
   pub places_are : it.places.now ≡ restarts_spelling block.restarts
   pub count : it.count ≡ length block.restarts
   pub spells : SpellsLengths form
+  pub orders : OrdersAs it.form form
   pub is_at : IsAt it form block.spelled place
 
 -- the walk goes over the rows, and stands at the place
@@ -106,6 +115,7 @@ pub record HasTaken (it : BlockIter) (s : Spelled) (used : ℕ) (bytes : List �
 -- For proofs alone.
 -- Pinned by: next.within
 pub record StaysIn (old new : BlockIter) : Type 0 where
+  pub form : new.form ≡ old.form
   pub rows : new.rows.now ≡ old.rows.now
   pub places : new.places.now ≡ old.places.now
   pub count : new.count ≡ old.count

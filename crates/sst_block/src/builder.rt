@@ -41,9 +41,8 @@ impl BlockBuilder {
     /// A builder with no row.
     ///
     /// `form` says what the rows will be, and `interval`, from 1 to 65,536, how many rows a restart begins.
-    /// `hash` asks for a hash part. For now it is false, and an index form has neither user keys nor delta
-    /// handles. Fails where memory runs out. RocksDB: the constructor of `BlockBuilder` in
-    /// table/block_based/block_builder.cc.
+    /// `hash` asks for a hash part. For now it is false, and an index form has no delta handles. Fails where memory
+    /// runs out. RocksDB: the constructor of `BlockBuilder` in table/block_based/block_builder.cc.
     pub fn new(
         alloc: Global,
         form: RowForm,
@@ -162,8 +161,10 @@ impl BlockBuilder {
     }
 }
 
-/// How many bytes two keys have in common at their fronts.
-fn common_front(a: &[u8], b: &[u8]) -> usize
+/// How many bytes two keys have in common at their fronts. Takes no memory.
+///
+/// RocksDB: `BlockBuilder::AddWithLastKeyImpl` in table/block_based/block_builder.cc.
+pub fn common_front(a: &[u8], b: &[u8]) -> usize
     ensures { result ≡ common a.now b.now }
 {
     let end = a.len().min(b.len());

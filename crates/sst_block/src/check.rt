@@ -203,7 +203,7 @@ fn count_rows(alloc: Global, block: &[u8], form: RowForm) -> Result<u32, Refused
 
 /// Checks a block of rows of the form, and answers how many rows it has.
 ///
-/// The block has at most 2^29 bytes, and for now an index form has neither user keys nor delta handles. Ok comes
+/// The block has at most 2^29 bytes, and for now an index form has no delta handles. Ok comes
 /// exactly where the bytes stand for rows in the sense of `Block` (specs/Block.antt), and otherwise the first fault
 /// that is there: that of the footer, then of the rows, one by one, then of the restarts, one by one. Of one row the
 /// lengths come first, then that the key has a tag, then its kind or the handle that is its value, then its order. The

@@ -1,12 +1,13 @@
 //! The walk over the rows of a block.
-ghost use Rattle.std.specs.Prelude.{◌≡◌, ℕ, ◌+◌, ◌-◌, ◌*◌, ◌<◌, ◌≤◌, nat_lt, true, false, List, [], length, drop, Option, None, Some, slice_get};
+ghost use Rattle.std.specs.Prelude.{◌≡◌, ◌⊎◌, ℕ, ◌+◌, ◌-◌, ◌*◌, ◌<◌, ◌≤◌, nat_lt, true, false, List, [], length, drop, Option, None, Some, slice_get, option_and_then};
 ghost use Rattle.sst_block.specs.declared.row_form.RowForm as forms;
 ghost use Rattle.sst_block.specs.Block.{Row, Spelled, Block, SpellsLengths};
 ghost use Rattle.sst_block.specs.BlockReading.{row_at};
+ghost use Rattle.sst_block.specs.Seek.{CanSeek, IsTarget, MayBegin, is_before, rows_before};
 ghost use Rattle.sst_block.specs.Iter.{Walks, WalksIn, HasTaken, StaysIn, Reaches, BeginsBefore, place_of, place_before, start_of, restart_at, bytes_behind};
 
 use crate::check::{NUMBER_LENGTH, split_whole};
-use crate::row::{row_lengths, split_row};
+use crate::row::{key_cmp, row_lengths, split_row};
 use crate::row_form::RowForm;
 use sst_key::KeyRoom;
 use sst_num::fixed32;
@@ -18,6 +19,8 @@ use sst_num::fixed32;
 /// table/block_based/block.h.
 #[derive(Drop)]
 pub struct BlockIter<'b> {
+    /// What the rows are.
+    form: RowForm,
     /// The rows of the block.
     rows: &'b [u8],
     /// The restarts, four bytes each, and what follows them.
@@ -45,10 +48,10 @@ impl<'b> BlockIter<'b> {
         ensures walks { (rows : List Row) → Block form block.now rows → Walks result rows None }
         ensures within { SpellsLengths form → (rows : List Row) (b : Block form block.now rows) → WalksIn result form block.now rows b None }
     {
-        let _ = form;
         let parts = split_whole(block);
         let rows = parts.rows;
         BlockIter {
+            form,
             rows,
             places: parts.places,
             count: parts.count,
@@ -126,7 +129,7 @@ impl<'b> BlockIter<'b> {
             × WalksIn self.old form bytes rows b place × (i < length b.restarts) }
         ensures within { (form : forms.RowForm) (bytes : List ℕ) (rows : List Row) (b : Block form bytes rows) (place : Option ℕ)
             → WalksIn self.old form bytes rows b place → i < length b.restarts
-            → (k : ℕ) × (slice_get b.restarts i ≡ Some (start_of form b.spelled k)) × WalksIn self.new form bytes rows b (place_of rows k) × (result ≡ nat_lt k (length rows)) }
+            → (k : ℕ) × (slice_get b.restarts i ≡ Some (start_of form b.spelled k)) × WalksIn self.new form bytes rows b (place_of rows k) × (result ≡ nat_lt k (length rows)) × ((k ≡ 0) ⊎ (k < length rows)) }
         ensures tells { (form : forms.RowForm) (bytes : List ℕ) (rows : List Row) (b : Block form bytes rows) (place : Option ℕ)
             → WalksIn self.old form bytes rows b place → i < length b.restarts → result ≡ nat_lt 0 (length rows) }
     {
@@ -171,6 +174,92 @@ impl<'b> BlockIter<'b> {
         self.at_restart(i);
         self.forward(left);
         true
+    }
+
+    /// Goes to the first row whose key isn't before the target, in the order of the form. True exactly where there is one; else it
+    /// stands nowhere.
+    ///
+    /// Where the keys of the form have a tag, the target has at least eight bytes. The restarts are halved, and the walk goes
+    /// forward from the last one whose row is before the target: it decodes the rows of one restart, and one row for each
+    /// halving. RocksDB: `Seek` of `DataBlockIter` and `IndexBlockIter`, and `BinarySeek`, in table/block_based/block.cc.
+    pub fn seek(&mut self, target: &[u8]) -> bool
+        requires { CanSeek self.old target.now }
+        ensures within { (form : forms.RowForm) (bytes : List ℕ) (rows : List Row) (b : Block form bytes rows) (place : Option ℕ)
+            → WalksIn self.old form bytes rows b place → IsTarget form target.now
+            → WalksIn self.new form bytes rows b (place_of rows (rows_before form target.now rows)) }
+        ensures tells { (form : forms.RowForm) (bytes : List ℕ) (rows : List Row) (b : Block form bytes rows) (place : Option ℕ)
+            → WalksIn self.old form bytes rows b place → IsTarget form target.now
+            → result ≡ nat_lt (rows_before form target.now rows) (length rows) }
+    {
+        let i = self.restart_for(target);
+        self.at_restart(i);
+        self.forward_to(target)
+    }
+
+    /// The number of a restart before whose row all rows are before the target: the last such one that halving meets, or the
+    /// first of all. The walk is moved.
+    fn restart_for(&mut self, target: &[u8]) -> u32
+        requires { CanSeek self.old target.now }
+        ensures { (form : forms.RowForm) (bytes : List ℕ) (rows : List Row) (b : Block form bytes rows) (place : Option ℕ)
+            → WalksIn self.old form bytes rows b place → IsTarget form target.now
+            → (result < length b.restarts) × MayBegin form target.now b result
+            × ((next : Option ℕ) × WalksIn self.new form bytes rows b next) }
+    {
+        let mut low = 0;
+        let mut high = self.count;
+        while high - low > 1 {
+            let middle = low + (high - low) / 2;
+            if self.begins_before(middle, target) {
+                low = middle;
+            } else {
+                high = middle;
+            }
+        }
+        low
+    }
+
+    /// Goes to the row that begins at the restart of this number, and answers whether its key is before the target.
+    fn begins_before(&mut self, i: u32, target: &[u8]) -> bool
+        requires seeks { CanSeek self.old target.now }
+        requires restart { i < self.old.count }
+        ensures { (form : forms.RowForm) (bytes : List ℕ) (rows : List Row) (b : Block form bytes rows) (place : Option ℕ)
+            → WalksIn self.old form bytes rows b place → IsTarget form target.now
+            → (k : ℕ) × (slice_get b.restarts i ≡ Some (start_of form b.spelled k)) × WalksIn self.new form bytes rows b (place_of rows k)
+            × (result ≡ is_before form target.now (slice_get rows k)) × ((k ≡ 0) ⊎ (k < length rows)) }
+    {
+        self.at_restart(i);
+        self.is_before(target)
+    }
+
+    /// Goes forward to the first row whose key isn't before the target, as are those of all rows that it has passed. It may stand
+    /// there, or nowhere. True exactly where there is one.
+    fn forward_to(&mut self, target: &[u8]) -> bool
+        requires { (form : forms.RowForm) × (bytes : List ℕ) × (rows : List Row) × (b : Block form bytes rows) × (k : ℕ)
+            × WalksIn self.old form bytes rows b (place_of rows k) × (k ≤ rows_before form target.now rows) × IsTarget form target.now }
+        ensures { (form : forms.RowForm) (bytes : List ℕ) (rows : List Row) (b : Block form bytes rows) (k : ℕ)
+            → WalksIn self.old form bytes rows b (place_of rows k) → k ≤ rows_before form target.now rows → IsTarget form target.now
+            → WalksIn self.new form bytes rows b (place_of rows (rows_before form target.now rows))
+            × (result ≡ nat_lt (rows_before form target.now rows) (length rows)) }
+    {
+        while self.is_before(target) {
+            if !self.step() {
+                return false;
+            }
+        }
+        self.stands
+    }
+
+    /// It stands at a row whose key is before the target.
+    fn is_before(&self, target: &[u8]) -> bool
+        requires { CanSeek self.now target.now }
+        ensures { (form : forms.RowForm) (bytes : List ℕ) (rows : List Row) (b : Block form bytes rows) (place : Option ℕ)
+            → WalksIn self.now form bytes rows b place → IsTarget form target.now
+            → result ≡ is_before form target.now (option_and_then (slice_get rows) place) }
+    {
+        if !self.stands {
+            return false;
+        }
+        key_cmp(self.form, self.key.bytes(), target).is_lt()
     }
 
     /// The number of the last restart that is before the place, which isn't the first of all.

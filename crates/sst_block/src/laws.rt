@@ -1,12 +1,25 @@
 //! Laws: what a block stands for, what it reads as, and its first fault.
-ghost use Rattle.std.specs.Prelude.{◌≡◌, ℕ, ◌+◌, ◌%◌, ◌<◌, ◌≤◌, ◌^◌, List, [], length, map, slice_get, All, Some, Err};
+ghost use Rattle.std.specs.Prelude.{◌≡◌, ℕ, ◌+◌, ◌%◌, ◌<◌, ◌≤◌, ◌^◌, true, false, List, [], length, map, slice_get, All, Some, Err};
 ghost use Rattle.sst_block.specs.Block.{Row, Spelled, Block, IsRow, AreOrdered, common};
 ghost use Rattle.sst_block.specs.Builder.{HasNoFlags};
 ghost use Rattle.sst_block.specs.Chosen.{block_of, chosen};
+ghost use Rattle.sst_block.specs.Seek.{is_row_before, rows_before};
 ghost use Rattle.sst_block.specs.FirstFault.{IsFirstFault};
 ghost use Rattle.sst_block.specs.BlockReading.{block_read, Reads};
 ghost use Rattle.sst_block.specs.declared.fault.BlockFault.{BlockFault};
 ghost use Rattle.sst_block.specs.declared.row_form.RowForm.{RowForm};
+
+/// The rows before a target come first in a block.
+///
+/// `before`: a row whose key is before the target has a number below that of all such rows. `not`: each other row doesn't. So a
+/// seek lands on the first row that isn't before the target. RocksDB: `Seek` of `DataBlockIter` and `IndexBlockIter` in
+/// table/block_based/block.cc.
+pub fn a_seek_passes_the_rows_before()
+    ensures before { (form : RowForm) (target : List ℕ) (rows : List Row) (i : ℕ) (row : Row) → AreOrdered form rows → slice_get rows i ≡ Some row
+        → is_row_before form target row ≡ true → i < rows_before form target rows }
+    ensures not { (form : RowForm) (target : List ℕ) (rows : List Row) (i : ℕ) (row : Row) → AreOrdered form rows → slice_get rows i ≡ Some row
+        → is_row_before form target row ≡ false → rows_before form target rows ≤ i }
+{}
 
 /// The block that a builder makes of some rows stands for these rows.
 ///
@@ -35,8 +48,8 @@ pub fn each_group_begins_whole()
 /// Reading a block finds exactly the rows that its bytes stand for.
 ///
 /// What a block says is told by joined spellings and never by reading. `complete`: rows that the bytes stand for are
-/// read. `sound`: the bytes stand for rows that are read, if they are at most 2^29. It holds of each form whose keys
-/// are whole and whose handles stand as they are. RocksDB: `DecodeEntry` and
+/// read. `sound`: the bytes stand for rows that are read, if they are at most 2^29. It holds of each form whose
+/// handles stand as they are. RocksDB: `DecodeEntry` and
 /// `Block::NumRestarts` in table/block_based/block.cc.
 pub fn reading_finds_exactly_the_rows()
     ensures complete { (form : RowForm) (bytes : List ℕ) (rows : List Row) → HasNoFlags form

@@ -51,12 +51,12 @@
 //!   and which of the rows that share nothing are restarts, is free.
 //! - What is read is what the bytes stand for (`Block`, specs/Block.antt), whoever made them
 //!   ([`reading_finds_exactly_the_rows`], [`a_block_has_one_list_of_rows`], [`first_fault_is_first`]).
-//! - [`BlockIter`] goes over the rows of a block that was checked, forward and back, and to the row at any restart. It says
-//!   where its row begins. A key stays until the next move, and a value as long as the block. It takes no memory, and no
+//! - [`BlockIter`] goes over the rows of a block that was checked, forward and back, to the row at any restart, and to the first
+//!   row that isn't before a target ([`a_seek_passes_the_rows_before`]): there it halves the restarts and decodes the rows of one.
+//!   It says where its row begins. A key stays until the next move, and a value as long as the block. It takes no memory, and no
 //!   move fails.
 //!
-//! A block with a hash part, and index blocks whose separators are user keys or whose handles are differences,
-//! are neither made nor read yet.
+//! A block with a hash part, and index blocks whose handles are differences, are neither made nor read yet.
 #![tactic(auto)]
 
 mod builder;
@@ -67,12 +67,12 @@ mod laws;
 mod row;
 mod row_form;
 
-pub use builder::BlockBuilder;
+pub use builder::{BlockBuilder, common_front};
 pub use check::check_block;
 pub use fault::BlockFault;
 pub use iter::BlockIter;
 pub use laws::{
-    a_block_has_one_list_of_rows, chosen_block_stands_for_its_rows, each_group_begins_whole,
-    first_fault_is_first, reading_finds_exactly_the_rows,
+    a_block_has_one_list_of_rows, a_seek_passes_the_rows_before, chosen_block_stands_for_its_rows,
+    each_group_begins_whole, first_fault_is_first, reading_finds_exactly_the_rows,
 };
 pub use row_form::RowForm;

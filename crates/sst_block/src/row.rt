@@ -111,7 +111,7 @@ fn form_fault(form: RowForm, at: u32, key: &[u8], value: &[u8]) -> Option<BlockF
 }
 
 /// The order of the keys of a block: of stored keys, or bytewise.
-fn key_cmp(form: RowForm, a: &[u8], b: &[u8]) -> Ordering
+pub fn key_cmp(form: RowForm, a: &[u8], b: &[u8]) -> Ordering
     requires first { IsLongEnough form a.now }
     requires second { IsLongEnough form b.now }
     ensures { result ≡ blocks.key_cmp form a.now b.now }

@@ -5,10 +5,11 @@
 -- are a function of that. A command that reads two files, or changes some bytes of one, has no more than that to say:
 -- files are spoken of as the whole of the folder. Where damage is met midway, what was found is the answers so far and the
 -- fault (`cut_by`, OpenFile). A command that is added brings its behaviour and its code in files of their own, and a case
--- wherever the commands stand in a row; no definition or proof of another command changes. So `scan FILE`, which would print
--- all entries of a file, has specs/ScanCommand (`on_file`, with the entries' lines as the text) and src/commands/scan, and adds a
--- case to specs/Words (its words), specs/Command (`Command`, `seen`, `command_by`, `behaviour`), src/command, src/commands and
--- src/program (one arm), and a clause to the lemmas over all commands (proofs/CommandWords, OneOutcome, AnyRuns).
+-- wherever the commands stand in a row; no definition or proof of another command changes. So `scan`, which lists the entries
+-- of a file, has specs/ScanCommand (`prints_of_file`, with the entries' lines as the text), src/commands/scan and its printing in
+-- src/output/listing, and a case in specs/Words (its words), specs/Command (`Command`, `seen`, `command_by`, `behaviour`,
+-- `file_read`), src/command, src/commands and src/program (one arm), and in the lemmas over all commands (proofs/CommandWords,
+-- OneOutcome, AnyRuns, Carried).
 use Rattle.std.specs.Prelude.{◌≡◌, ◌⊎◌, ℕ, List, take, Option, Some}
 use Rattle.std.specs.Io.KnownBytes.{append_known}
 use Rattle.std.specs.FinMap.{get}

@@ -54,7 +54,7 @@ behaviour (Some (Get line)) = get_command line
 behaviour (Some (Scan line)) = scan_command line
 
 -- the file that a command reads, if it reads one
--- Pinned by: what_a_run_comes_to.device, what_calls_come_to.file_only
+-- Pinned by: what_a_run_comes_to.device, what_a_run_comes_to.file_only
 abbrev pub file_read : Command → Option (List ℕ)
 file_read (Write line) = None
 file_read (Calls name) = Some name

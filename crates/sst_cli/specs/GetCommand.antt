@@ -17,6 +17,8 @@ found_text None = codes "none\n"
 found_text (Some e) = ended_line e
 
 -- the entry at a place, if it is one
+-- Own.
+-- Pinned by: questions
 abbrev pub entry_at : List Entry → Option ℕ → Option Entry
 entry_at entries place = option_and_then (λ i. slice_get entries i) place
 

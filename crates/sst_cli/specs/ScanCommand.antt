@@ -70,6 +70,7 @@ walk_answer true entries position = steps_on entries position
 
 -- the entries that a walk still has ahead: all, before it begins, and then those after its position
 -- For proofs alone.
+-- Pinned by: run.ends
 abbrev pub ahead : Bool → Option ℕ → List Entry → List Entry
 ahead false position entries = entries
 ahead true None entries = []
@@ -77,6 +78,7 @@ ahead true (Some i) entries = drop (i + 1) entries
 
 -- a step of a walk shows the first of the entries that were ahead
 -- For proofs alone.
+-- Pinned by: run.ends
 abbrev pub IsStep : Option Entry → List Entry → List Entry → Type 0
 IsStep None before after = before ≡ []
 IsStep (Some e) before after = before ≡ e ∷ after

@@ -64,13 +64,13 @@ calls_name (command ∷ (b ∷ name) ∷ []) = if bytes_eq command (codes "calls
 calls_name (command ∷ name ∷ next ∷ rest) = None
 
 -- the name, where the word before it is this one and it isn't empty
--- Pinned by: words_that_ask_nothing
+-- Pinned by: questions
 abbrev pub name_after : List ℕ → List ℕ → List ℕ → Option (List ℕ)
 name_after word command [] = None
 name_after word command (b ∷ name) = if bytes_eq command word then Some (b ∷ name) else None
 
 -- a `get`: the name of the file that it reads, and the user key and the snapshot that it looks for
--- Pinned by: words_that_ask_nothing, questions
+-- Pinned by: questions
 pub record GetLine : Type 0 where
   pub name : List ℕ
   pub target : Target
@@ -79,7 +79,7 @@ abbrev pub get_of_name : List ℕ → Option Target → Option GetLine
 get_of_name name target = option_map (λ (t : Target). record { name = name; target = t }) target
 
 -- the `get` that the words are; nothing where they are none. USER and SEQ are as in a call line.
--- Pinned by: words_that_ask_nothing, questions
+-- Pinned by: questions
 abbrev pub get_line : List (List ℕ) → Option GetLine
 get_line [] = None
 get_line (command ∷ []) = None
@@ -90,7 +90,7 @@ get_line (command ∷ name ∷ user ∷ seq ∷ []) =
 get_line (command ∷ name ∷ user ∷ seq ∷ next ∷ rest) = None
 
 -- a `scan`: the name of the file that it reads, and the snapshot, if it has one
--- Pinned by: words_that_ask_nothing, questions
+-- Pinned by: questions
 pub record ScanLine : Type 0 where
   pub name : List ℕ
   pub snapshot : Option ℕ
@@ -99,7 +99,7 @@ abbrev pub scan_of_name : List ℕ → Option ℕ → Option ScanLine
 scan_of_name name seq = option_map (λ (n : ℕ). record { name = name; snapshot = Some n }) seq
 
 -- the `scan` that the words are; nothing where they are none. SEQ is as in a call line.
--- Pinned by: words_that_ask_nothing, questions
+-- Pinned by: questions
 abbrev pub scan_line : List (List ℕ) → Option ScanLine
 scan_line [] = None
 scan_line (command ∷ []) = None

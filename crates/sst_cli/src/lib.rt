@@ -24,10 +24,20 @@
 //!                           | line-long, line, many  +----+-----+                        |
 //!                           v                             v                              v
 //! output <----------- input N REASON               a line for each call           damage FAULT
+//!
+//!               command_of
+//! words ------------------------> name of FILE, USER, SEQ     file
+//!                                           |                   |  load, draw_framed, check_block
+//!                                           |                   v
+//!                                           |                entries, or the first thing that is wrong
+//!                                           +------+------------+                        |
+//!                                                  v                                     v
+//! output <--------------------------- the entry's line or none, or               damage FAULT
+//!                                     the lines of the entries
 //! ```
 //!
-//! - Words: there are two commands, `write block OUT`, perhaps with the option `block=N`, and `calls FILE`. All others are
-//!   Usage.
+//! - Words: there are four commands: `write block OUT`, perhaps with the option `block=N`; `calls FILE`; `get FILE USER SEQ`;
+//!   and `scan FILE`, perhaps with a SEQ. All others are Usage. USER and SEQ are as in a call line.
 //! - Lines: an input is a list of lines, each ended by LF. An entry line is `USER SEQ KIND VALUE`: the user key and the
 //!   value in hex digits or `-`, a decimal sequence number, and one of the letters D, P, M and S. A call line is one of
 //!   `get USER SEQ`, `first`, `last`, `seek USER SEQ`, `seek_for_prev USER SEQ`, `next` and `prev`.
@@ -37,6 +47,8 @@
 //!   many bytes as the option says, or 4096.
 //! - Calls: at most 1,048,576, all read and checked before FILE is opened. A line is printed for each: the entry that
 //!   is shown, `none`, or `not-positioned`.
+//! - Get: the line of the newest entry of USER that the snapshot SEQ sees, or `none`.
+//! - Scan: the lines of the entries, in order; at a snapshot those of the entries that it sees.
 //!
 //! # Example
 //!
@@ -70,7 +82,8 @@
 //! ```
 //!
 //! `calls OUT` with the lines `get 61 1`, `get 61 0`, `first` and `next` prints `61 1 P 78`, `none`, `61 1 P 78` and
-//! `none`.
+//! `none`. `get OUT 61 1` prints `61 1 P 78`, and so do `scan OUT` and `scan OUT 1`; `get OUT 61 0` prints `none`, and
+//! `scan OUT 0` nothing.
 //!
 //! RocksDB: the wiki page "Rocksdb BlockBasedTable Format"; table/block_based/block_based_table_builder.cc,
 //! table/block_based/block_based_table_reader.cc and table/format.cc. The words and the lines are this project's own.
@@ -90,6 +103,11 @@
 //!   whose separators don't separate, Get, Seek and SeekForPrev go by the index; on each other file the first thing that is
 //!   wrong is printed, and the file shows it; of an input that is refused the first refusal, and then the folder isn't
 //!   touched ([`what_calls_come_to`], and `spares_folder` of [`run`]).
+//! - On each file that stands for a list, `get` prints what the list's Get shows ([`what_a_get_comes_to`]), and `scan` the lines
+//!   of the list or of what is `visible` of it at the snapshot (sst_key; [`what_a_scan_comes_to`]). On a file that opens, but whose
+//!   separators don't separate, Get goes by the index, and `scan` by First and Next, passing over what the snapshot doesn't see; on
+//!   a list in order that is what is visible ([`a_filtered_walk_is_what_is_visible`]). Of each other file the first thing that
+//!   is wrong is printed, and the input isn't touched ([`what_reading_a_file_comes_to`]).
 //! - Words are a command by the first of them ([`a_command_is_by_its_words`]). Of others `usage` is printed, and nothing else is
 //!   touched ([`what_a_run_comes_to`]).
 //! - Where the folder and the input are told, what a command may find there has one outcome
@@ -110,9 +128,9 @@
 //!
 //! ```text
 //! the program    status, command, program (`run`)
-//! commands/      a file each: write (produce makes its file), calls
+//! commands/      a file each: write (produce makes its file), calls, get, scan
 //! input/         entries, calls, call_list; refusal
-//! output/        printing; answers, damage
+//! output/        printing; answers, damage, entry_text, listing
 //! laws           laws of texts and files; run_laws: what a run comes to, for each command
 //! ```
 #![tactic(auto)]

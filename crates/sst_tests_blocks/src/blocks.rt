@@ -20,9 +20,10 @@ enum Kind {
     Names,
     Entries,
     Index,
+    UserKeys,
 }
 
-/// The form of such rows. An index has stored keys and whole handles.
+/// The form of such rows. An index has whole handles, and stored keys or user keys.
 fn form_of(kind: Kind) -> RowForm
     ensures { HasNoFlags result }
 {
@@ -33,6 +34,10 @@ fn form_of(kind: Kind) -> RowForm
             user_key: false,
             delta: false,
         },
+        Kind::UserKeys => RowForm::Index {
+            user_key: true,
+            delta: false,
+        },
     }
 }
 
@@ -40,7 +45,7 @@ fn form_of(kind: Kind) -> RowForm
 type Rows = &'static [(&'static [u8], &'static [u8])];
 
 /// Sound blocks, and their rows.
-static SOUND: [(&[u8], Kind, Rows); 9] = [
+static SOUND: [(&[u8], Kind, Rows); 10] = [
     // No row, the one restart 0, and that there is one restart.
     (b"\0\0\0\0\x01\0\0\0", Kind::Names, &[]),
     (b"\0\0\0\0\x01\0\0\0", Kind::Entries, &[]),
@@ -65,6 +70,12 @@ static SOUND: [(&[u8], Kind, Rows); 9] = [
         b"\x00\x08\x02\x01\0\0\0\0\0\0\0\x00\x15\0\0\0\0\x01\0\0\0",
         Kind::Index,
         &[(b"\x01\0\0\0\0\0\0\0", b"\x00\x15")],
+    ),
+    // The user keys a and ab, and the handles of offset 0 and size 21, and of offset 26 and size 200.
+    (
+        b"\x00\x01\x02a\x00\x15\x01\x01\x03b\x1a\xc8\x01\0\0\0\0\x01\0\0\0",
+        Kind::UserKeys,
+        &[(b"a", b"\x00\x15"), (b"ab", b"\x1a\xc8\x01")],
     ),
     // The rows a, ab and b, which begin at 0, 4 and 8, and of which the second shares a; the restarts are 0 and 8.
     (
@@ -174,7 +185,7 @@ fn blocks_that_are_built(rt: HostRuntime) -> Result<(), Fail> {
 }
 
 /// Blocks that are refused, and their first faults.
-static FAULTY: [(&[u8], Kind, BlockFault); 23] = [
+static FAULTY: [(&[u8], Kind, BlockFault); 25] = [
     // Seven bytes; no restart; two restarts, which take 12 bytes; and bit 31, which says that there is a hash part.
     (b"\0\0\0\x01\0\0\0", Kind::Names, BlockFault::BadFooter),
     (b"\0\0\0\0\0\0\0\0", Kind::Names, BlockFault::BadFooter),
@@ -233,6 +244,17 @@ static FAULTY: [(&[u8], Kind, BlockFault); 23] = [
         b"\x00\x08\x03\x01\0\0\0\0\0\0\0\x00\x15\x00\0\0\0\0\x01\0\0\0",
         Kind::Index,
         BlockFault::BadHandle(0),
+    ),
+    // Behind the user key a, a handle without its size; and behind b, the user key a.
+    (
+        b"\x00\x01\x02a\x00\x15\x01\x01\x01b\x1a\0\0\0\0\x01\0\0\0",
+        Kind::UserKeys,
+        BlockFault::BadHandle(6),
+    ),
+    (
+        b"\x00\x01\x02b\x00\x15\x00\x01\x02a\x1a\x0a\0\0\0\0\x01\0\0\0",
+        Kind::UserKeys,
+        BlockFault::Disorder(6),
     ),
     // A key twice, and b before a; the second row begins at 4.
     (

@@ -9,6 +9,8 @@
 //! - [`footers`]: the ends of files.
 //! - [`loading`]: what files say of themselves, and what is wrong with some.
 //! - [`lengths`]: the longest files that are loaded.
+//! - [`seeking`]: walks that go to a target and to a restart.
+//! - [`index`]: the keys between blocks.
 //! - [`laws`]: the laws of these crates, and of what a file stands for.
 #![tactic(auto)]
 
@@ -17,6 +19,8 @@ mod blocks;
 #[cfg(test)]
 mod footers;
 #[cfg(test)]
+mod index;
+#[cfg(test)]
 mod laws;
 #[cfg(test)]
 mod lengths;
@@ -24,3 +28,5 @@ mod lengths;
 mod loading;
 #[cfg(test)]
 mod properties;
+#[cfg(test)]
+mod seeking;

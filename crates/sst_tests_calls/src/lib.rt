@@ -1,4 +1,4 @@
-//! Worked runs of the command `calls` on files that are answered from.
+//! Worked runs of the commands `calls`, `get` and `scan` on files that are answered from.
 //!
 //! Each test hands words to `sst_cli::run` over a folder, an input and an output in memory, and compares the
 //! status, what is printed and the bytes of the file. `sst_tests_write` says what such runs show, and
@@ -12,6 +12,7 @@
 //! - [`separators`]: answers by the index, where it isn't the list's.
 //! - [`counted`]: answers at every target, as a plain count over the list gives them.
 //! - [`other_names`]: files with names and properties that a reader passes by.
+//! - [`questions`]: one Get, all entries or those that a snapshot sees, asked for by words.
 //! - [`lacking`]: the line of a call that a format lacks.
 //! - [`outside`]: inputs that are refused, a file that isn't there, and calls outside that fail.
 #![tactic(auto)]
@@ -28,5 +29,7 @@ mod lists;
 mod other_names;
 #[cfg(test)]
 mod outside;
+#[cfg(test)]
+mod questions;
 #[cfg(test)]
 mod separators;

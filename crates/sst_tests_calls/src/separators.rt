@@ -99,7 +99,7 @@ static ON_BEHIND_SEPARATORS: [(&str, &str); 4] = [
 
 /// A file with the one data block of `61 1 P 78`, to which two rows of the index lead: the user keys of their separators
 /// are 62 and 63.
-static ONE_BLOCK_TWICE: [&str; 11] = [
+pub(crate) static ONE_BLOCK_TWICE: [&str; 11] = [
     "00090161010100000000000078",
     "0000000001000000",
     "0084dd8874",

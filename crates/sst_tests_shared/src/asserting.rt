@@ -2,7 +2,8 @@
 //!
 //! They are functions of a library, which may not stop the program, so that a test hands their failure on by `?`.
 use crate::worked_run::{
-    NAME, NONE_FAILS, Ran, answered, holds, other_is_as_it_was, printed, run_on, still_to_come,
+    NAME, NONE_FAILS, Ran, UNTAKEN, answered, asked, holds, other_is_as_it_was, printed, run_on,
+    still_to_come,
 };
 use sst_cli::Status;
 use std::alloc::Global;
@@ -34,6 +35,19 @@ fn otherwise_after_calls(ran: &mut Ran, file: &[u8], text: &str) -> Option<&'sta
     otherwise(ran, Status::Done, text, "")
 }
 
+/// The same, whatever the status, and where nothing of the input was taken.
+fn otherwise_after_question(
+    ran: &mut Ran,
+    file: &[u8],
+    status: Status,
+    text: &str,
+) -> Option<&'static str> {
+    if !holds(ran, NAME, file) {
+        return Some("the file");
+    }
+    otherwise(ran, status, text, UNTAKEN)
+}
+
 /// The same, and whether there is no file.
 fn otherwise_after_usage(ran: &mut Ran, input: &str) -> Option<&'static str> {
     if ran.folder.file(NAME).is_some() {
@@ -49,6 +63,21 @@ pub fn assert_answered(alloc: Global, file: &[u8], calls: &str, text: &str) -> R
     match otherwise_after_calls(&mut ran, file, text) {
         None => Ok(()),
         Some(what) => Err(Fail::new(format_args!("{what} is otherwise on {calls}"))),
+    }
+}
+
+/// Asserts what is told where the words are run on the file, that the input isn't touched, and that no file changes.
+pub fn assert_told(
+    alloc: Global,
+    file: &[u8],
+    words: &[&str],
+    status: Status,
+    text: &str,
+) -> Result<(), Fail> {
+    let mut ran = asked(alloc, file, words)?;
+    match otherwise_after_question(&mut ran, file, status, text) {
+        None => Ok(()),
+        Some(what) => Err(Fail::new(format_args!("{what} is otherwise on {words:?}"))),
     }
 }
 

@@ -13,6 +13,9 @@ pub const WORDS: [&str; 3] = ["write", "block", NAME];
 /// The words that answer calls from it.
 pub const CALLS: [&str; 2] = ["calls", NAME];
 
+/// An input that isn't taken.
+pub const UNTAKEN: &str = "61 1 P 78\n";
+
 /// The file that stands in the folder before each run.
 const OTHER: &str = "other.sst";
 
@@ -131,6 +134,15 @@ pub fn answered_with(
 /// Runs the command that answers calls from a file of these bytes, with no call outside that fails.
 pub fn answered(alloc: Global, file: &[u8], input: &[u8]) -> Result<Ran, Fail> {
     answered_with(alloc, file, input, NONE_FAILS)
+}
+
+/// Runs the program on these words, which ask something of a file of these bytes, beside an input that isn't for them.
+pub fn asked(alloc: Global, file: &[u8], words: &[&str]) -> Result<Ran, Fail> {
+    let mut folder = MemFolder::new(alloc, &[])?;
+    folder.put_file(NAME, file)?;
+    let intake = MemIntake::new(alloc, UNTAKEN.as_bytes(), &[])?;
+    let sink = MemSink::new(alloc, &[])?;
+    run_over(alloc, words, folder, intake, sink)
 }
 
 /// Runs the program over an output whose first call takes nothing.

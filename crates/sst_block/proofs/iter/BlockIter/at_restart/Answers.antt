@@ -14,8 +14,8 @@ go_to-requires c =
 
 pub returns-clause-within : goal.returns-clause-within
 returns-clause-within c = λ form bytes rows b place w within.
-    (restart-in c.args.self.now c.go_to.new.self _ form bytes rows b place _ _ w (record { rows = c.go_to.ensures.stays.rows; places = c.go_to.ensures.stays.places; count = c.go_to.ensures.stays.count }) within c.restart-start.ensures (record { none = c.go_to.ensures.none; some = c.go_to.ensures.some })).0
+    (restart-in c.args.self.now c.go_to.new.self _ form bytes rows b place _ _ w (record { form = c.go_to.ensures.stays.form; rows = c.go_to.ensures.stays.rows; places = c.go_to.ensures.stays.places; count = c.go_to.ensures.stays.count }) within c.restart-start.ensures (record { none = c.go_to.ensures.none; some = c.go_to.ensures.some })).0
 
 pub returns-clause-tells : goal.returns-clause-tells
 returns-clause-tells c = λ form bytes rows b place w within.
-    (restart-in c.args.self.now c.go_to.new.self _ form bytes rows b place _ _ w (record { rows = c.go_to.ensures.stays.rows; places = c.go_to.ensures.stays.places; count = c.go_to.ensures.stays.count }) within c.restart-start.ensures (record { none = c.go_to.ensures.none; some = c.go_to.ensures.some })).1
+    (restart-in c.args.self.now c.go_to.new.self _ form bytes rows b place _ _ w (record { form = c.go_to.ensures.stays.form; rows = c.go_to.ensures.stays.rows; places = c.go_to.ensures.stays.places; count = c.go_to.ensures.stays.count }) within c.restart-start.ensures (record { none = c.go_to.ensures.none; some = c.go_to.ensures.some })).1

@@ -13,11 +13,11 @@ overflow_sub-start c =
 
 pub returns-then-start-eq0-clause-moves : goal.returns-then-start-eq0-clause-moves
 returns-then-start-eq0-clause-moves c = λ rows i w.
-    walks-of _ _ _ _ _ _ (prev-first c.args.self.now _ w.form w.bytes rows w.block i w.walks c.if-start-eq0.true (record { rows = refl; places = refl; count = refl }) refl)
+    walks-of _ _ _ _ _ _ (prev-first c.args.self.now _ w.form w.bytes rows w.block i w.walks c.if-start-eq0.true (record { form = refl; rows = refl; places = refl; count = refl }) refl)
 
 pub returns-then-start-eq0-clause-within : goal.returns-then-start-eq0-clause-within
 returns-then-start-eq0-clause-within c = λ form bytes rows b i w.
-    prev-first c.args.self.now _ form bytes rows b i w c.if-start-eq0.true (record { rows = refl; places = refl; count = refl }) refl
+    prev-first c.args.self.now _ form bytes rows b i w c.if-start-eq0.true (record { form = refl; rows = refl; places = refl; count = refl }) refl
 
 pub returns-then-start-eq0-clause-tells : goal.returns-then-start-eq0-clause-tells
 returns-then-start-eq0-clause-tells c = λ rows i w.
@@ -50,21 +50,21 @@ pub forward-requires : goal.forward-requires
 forward-requires c =
     let (rows, i, w) = c.requires in
     let within = subst (λ (n : ℕ). c.restart_before-i.result < n) (w.walks).count c.restart_before-i.ensures.0 in
-    let (k, at, there, told) = c.at_restart.ensures.within w.form w.bytes rows w.block (Some i) w.walks within in
+    let (k, at, there, told, row) = c.at_restart.ensures.within w.form w.bytes rows w.block (Some i) w.walks within in
     let (before, stands) = before-stands c.args.self.now c.at_restart.new.self w.form w.bytes rows w.block i c.restart_before-i.result k w.walks within c.restart_before-i.ensures.1 at there in
     prev-reaches c.args.self.now c.at_restart.new.self w.form w.bytes rows w.block i k w.walks before stands
 
 pub returns-clause-moves : goal.returns-clause-moves
 returns-clause-moves c = λ rows i w.
     let within = subst (λ (n : ℕ). c.restart_before-i.result < n) (w.walks).count c.restart_before-i.ensures.0 in
-    let (k, at, there, told) = c.at_restart.ensures.within w.form w.bytes rows w.block (Some i) w.walks within in
+    let (k, at, there, told, row) = c.at_restart.ensures.within w.form w.bytes rows w.block (Some i) w.walks within in
     let (before, stands) = before-stands c.args.self.now c.at_restart.new.self w.form w.bytes rows w.block i c.restart_before-i.result k w.walks within c.restart_before-i.ensures.1 at there in
     walks-of _ _ _ _ _ _ (prev-in c.args.self.now c.at_restart.new.self c.forward.new.self w.form w.bytes rows w.block i k w.walks before stands c.forward.ensures)
 
 pub returns-clause-within : goal.returns-clause-within
 returns-clause-within c = λ form bytes rows b i w.
     let within = subst (λ (n : ℕ). c.restart_before-i.result < n) (w).count c.restart_before-i.ensures.0 in
-    let (k, at, there, told) = c.at_restart.ensures.within form bytes rows b (Some i) w within in
+    let (k, at, there, told, row) = c.at_restart.ensures.within form bytes rows b (Some i) w within in
     let (before, stands) = before-stands c.args.self.now c.at_restart.new.self form bytes rows b i c.restart_before-i.result k w within c.restart_before-i.ensures.1 at there in
     prev-in c.args.self.now c.at_restart.new.self c.forward.new.self form bytes rows b i k w before stands c.forward.ensures
 

@@ -1,0 +1,51 @@
+//! Laws: where a separator stands, and what an index block says.
+ghost use Rattle.std.specs.Prelude.{◌≡◌, ◌≢◌, ℕ, ◌^◌, ◌<◌, ◌≤◌, false, List, length, All};
+ghost use Rattle.std.specs.Ordering.{nat_cmp};
+ghost use Rattle.std.specs.Cmp.Lexicographic.{slice_cmp};
+ghost use Rattle.std.specs.declared.cmp.Ordering.TheVariants.{Less, Greater};
+ghost use Rattle.sst_key.specs.InternalKey.{user_of, internal_cmp};
+ghost use Rattle.sst_block.specs.Block.{AreOrdered};
+ghost use Rattle.sst_block.specs.IndexRows.{IndexPair, IndexRows};
+ghost use Rattle.sst_index.specs.declared.flags.IndexFlags.{IndexFlags};
+ghost use Rattle.sst_index.specs.IndexBlock.{form_of, index_block, rows_of_pairs};
+ghost use Rattle.sst_index.specs.Separators.{separator_between, separator_after};
+ghost use Rattle.sst_index.specs.Top.{IsPair};
+
+/// A separator stands between the last key of its block and the first key of the next.
+///
+/// Both are stored keys, and `last` and `next` are where the separator stands among stored keys: not before the one, and
+/// before the other. `last_user` and `next_user` say the same of user keys alone, where the two user keys differ. `short`:
+/// it is no longer than the last key. `long`: it has room for a tag, if the last key has.
+/// RocksDB: `Comparator::FindShortestSeparator` in include/rocksdb/comparator.h.
+pub fn a_separator_separates()
+    ensures last { (a b : List ℕ) → internal_cmp a (separator_between a b) ≢ Greater }
+    ensures next { (a b : List ℕ) → internal_cmp a b ≡ Less → internal_cmp (separator_between a b) b ≡ Less }
+    ensures last_user { (a b : List ℕ) → slice_cmp nat_cmp (user_of a) (user_of (separator_between a b)) ≢ Greater }
+    ensures next_user { (a b : List ℕ) → internal_cmp a b ≡ Less → user_of a ≢ user_of b
+        → slice_cmp nat_cmp (user_of (separator_between a b)) (user_of b) ≡ Less }
+    ensures short { (a b : List ℕ) → length (separator_between a b) ≤ length a }
+    ensures long { (a b : List ℕ) → 8 ≤ length a → 8 ≤ length (separator_between a b) }
+{}
+
+/// The separator of the last block isn't before the last key, among stored keys and by the user keys alone.
+///
+/// `short`: it is no longer than that key. `long`: it has room for a tag, if that key has.
+/// RocksDB: `Comparator::FindShortSuccessor` in include/rocksdb/comparator.h.
+pub fn a_separator_ends()
+    ensures last { (a : List ℕ) → internal_cmp a (separator_after a) ≢ Greater }
+    ensures last_user { (a : List ℕ) → slice_cmp nat_cmp (user_of a) (user_of (separator_after a)) ≢ Greater }
+    ensures short { (a : List ℕ) → length (separator_after a) ≤ length a }
+    ensures long { (a : List ℕ) → 8 ≤ length a → 8 ≤ length (separator_after a) }
+{}
+
+/// The index block that is made of some pairs says these pairs.
+///
+/// It holds of pairs whose separators are in the order of the form, of any restart interval but 0, and of blocks of at most
+/// 2^29 bytes. For now it is said of handles that stand whole.
+/// RocksDB: `IndexValue::EncodeTo` and `DecodeFrom` in table/format.cc.
+pub fn an_index_block_says_its_pairs()
+    ensures { (flags : IndexFlags) (interval : ℕ) (pairs : List IndexPair) → flags.delta ≡ false → 0 < interval
+        → All (IsPair flags.user_key) pairs → AreOrdered (form_of flags) (rows_of_pairs flags interval pairs)
+        → length (index_block flags interval pairs) ≤ 2 ^ 29
+        → IndexRows flags.user_key flags.delta (index_block flags interval pairs) pairs }
+{}
