@@ -1,11 +1,10 @@
 -- The pairs of an index block are told by its bytes.
-use Rattle.std.proofs.Common.{◌≡◌, ℕ, ◌^◌, ◌<◌, Bool, true, false, List, [], ◌∷◌, map, All, refl, sym, ap, ◌∙◌, subst}
-use Rattle.std.proofs.lemmas.List.Elements.{All-head}
+use Rattle.std.proofs.Common.{◌≡◌, ℕ, ◌^◌, ◌<◌, Bool, false, List, [], ◌∷◌, map, subst}
 use Rattle.sst_num.specs.Spelling.{handle_spelling}
 use Rattle.sst_num.specs.declared.block_handle.Handle.{Handle}
 use Rattle.sst_block.specs.declared.row_form.RowForm.TheVariants.{Index}
-use Rattle.sst_block.specs.Block.{Row, Spelled, IsRow}
-use Rattle.sst_block.specs.IndexRows.{IndexPair, SayPairs, IndexRows, no_handle}
+use Rattle.sst_block.specs.Block.{Row, Spelled, IsRow, no_handle}
+use Rattle.sst_block.specs.IndexRows.{IndexPair, SayPairs, IndexRows}
 use Rattle.sst_block.proofs.OneReading.{one-pairs}
 use Rattle.sst_bbt_spec.proofs.HandlesOnce.{handle-once}
 

@@ -8,7 +8,7 @@ use Rattle.sst_block.specs.declared.row_form.RowForm.{RowForm}
 use Rattle.sst_block.specs.declared.row_form.RowForm.TheVariants.{Entries, Index}
 use Rattle.sst_block.specs.declared.builder.BlockBuilder.{BlockBuilder}
 use Rattle.sst_block.specs.Block.{Row, IsRow, AreOrdered}
-use Rattle.sst_block.specs.Builder.{Holds, CanAdd, row_room, last_key}
+use Rattle.sst_block.specs.Builder.{Holds, CanAdd, row_room, last_key, row_put}
 use Rattle.sst_block.proofs.Size.{can_add}
 use Rattle.sst_device.specs.Framed.{frame_of}
 use Rattle.sst_bbt_spec.specs.Rows.{rows_of}
@@ -120,7 +120,7 @@ end-space w cut entries bytes size kept some long =
 pub ended_keeps : (w : BbtWriter) (cut : Blocks) (entries : List Entry) (bytes : List ℕ) (next index : BlockBuilder) (block key value : List ℕ) (size : ℕ)
     → Keeps w cut entries bytes → 0 < w.rows → Holds next Entries w.options.restart [] → block ≡ data_block w.options cut.current → size ≡ length block
     → key ≡ w.last.items → value ≡ handle_spelling (record { offset = w.data_size; size = size })
-    → ((form : RowForm) (interval : ℕ) (rows : List Row) → Holds w.index form interval rows → Holds index form interval (rows ++ record { key = key; value = value } ∷ []))
+    → ((form : RowForm) (interval : ℕ) (rows : List Row) → Holds w.index form interval rows → Holds index form interval (rows ++ row_put form interval rows (record { key = key; value = value }) [] ∷ []))
     → Keeps (record {
       alloc = w.alloc;
       options = w.options;

@@ -7,7 +7,7 @@ use Rattle.sst_block.specs.declared.row_form.RowForm.{RowForm}
 use Rattle.sst_block.specs.declared.row_form.RowForm.TheVariants.{Entries, Index}
 use Rattle.sst_block.specs.declared.builder.BlockBuilder.{BlockBuilder}
 use Rattle.sst_block.specs.Block.{Row}
-use Rattle.sst_block.specs.Builder.{Holds, CanAdd}
+use Rattle.sst_block.specs.Builder.{Holds, CanAdd, row_put}
 use Rattle.sst_bbt_spec.specs.Rows.{rows_of}
 use Rattle.sst_bbt_write.specs.declared.bbt_writer.BbtWriter.{BbtWriter}
 use Rattle.sst_bbt_write.specs.Cut.{Blocks, entries_in}
@@ -74,7 +74,7 @@ entry-space w cut entries bytes e kept fits =
 -- and the writer then keeps the list with the entry
 pub entered_keeps : (w : BbtWriter) (cut : Blocks) (entries : List Entry) (bytes : List ℕ) (e : Entry) (key : List ℕ) (new : BbtWriter)
     → Keeps w cut entries bytes → Fits (entries ++ e ∷ []) → key ≡ key_of e
-    → ((form : RowForm) (interval : ℕ) (rows : List Row) → Holds w.block form interval rows → Holds new.block form interval (rows ++ record { key = key; value = e.value } ∷ []))
+    → ((form : RowForm) (interval : ℕ) (rows : List Row) → Holds w.block form interval rows → Holds new.block form interval (rows ++ row_put form interval rows (record { key = key; value = e.value }) [] ∷ []))
     → (new.failed ≡ w.failed) → (new.options ≡ w.options) → (new.rows ≡ w.rows + 1) → (new.index ≡ w.index) → (new.blocks ≡ w.blocks) → (new.data_size ≡ w.data_size)
     → (new.last.items ≡ key_of e) → (new.count ≡ w.count + 1) → (new.keys ≡ w.keys + length (key_of e)) → (new.values ≡ w.values + length e.value)
     → (new.weight ≡ w.weight + entry_weight e)

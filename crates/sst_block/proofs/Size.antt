@@ -79,18 +79,28 @@ gives-none Names spelled value delta plain = tt
 gives-none (Index user_key false) spelled value delta plain = tt
 gives-none (Index user_key true) spelled value delta plain = cc
 
--- a row may be added where the rows with it have room, in a form without differences
-pub can_add : (b : BlockBuilder) (form : RowForm) (interval : ℕ) (rows : List Row) (row : Row) (delta : List ℕ) → has_differences form ≡ false → Holds b form interval rows
-    → IsRow form row → AreOrdered form (rows ++ row ∷ []) → sum_by row_room (rows ++ row ∷ []) + 8 < 2 ^ 29 → CanAdd b row delta
-can_add b form interval rows row delta plain holds has_form ordered room =
-    let put : row_put form interval rows row delta ≡ row = rw plain refl in
+-- and each value stands as it is given
+pub put-plain : (form : RowForm) (interval : ℕ) (rows : List Row) (row : Row) (delta : List ℕ) → has_differences form ≡ false → row_put form interval rows row delta ≡ row
+put-plain form interval rows row delta plain = rw plain refl
+
+-- a row may be added that may come next, in a form without differences
+pub takes-plain : (b : BlockBuilder) (form : RowForm) (interval : ℕ) (rows : List Row) (row : Row) (delta : List ℕ) → has_differences form ≡ false → Holds b form interval rows
+    → IsRow form row → AreOrdered form (rows ++ row ∷ []) → length (block_of form interval (rows ++ row ∷ [])) < 2 ^ 29 → CanAdd b row delta
+takes-plain b form interval rows row delta plain holds has_form ordered short =
+    let put = sym (put-plain form interval rows row delta plain) in
     inr (record {
       form = form;
       interval = interval;
       rows = rows;
       holds = holds;
-      has_form = subst (λ (r : Row). IsRow form r) (sym put) has_form;
+      has_form = subst (λ (r : Row). IsRow form r) put has_form;
       given = gives-none form (spelled_of interval rows) row.value delta plain;
-      ordered = subst (λ (r : Row). AreOrdered form (rows ++ r ∷ [])) (sym put) ordered;
-      short = subst (λ (r : Row). length (block_of form interval (rows ++ r ∷ [])) < 2 ^ 29) (sym put) (omega (arith, block_of-le form interval (rows ++ row ∷ []), room));
+      ordered = subst (λ (r : Row). AreOrdered form (rows ++ r ∷ [])) put ordered;
+      short = subst (λ (r : Row). length (block_of form interval (rows ++ r ∷ [])) < 2 ^ 29) put short;
     })
+
+-- and so where the rows with it have room
+pub can_add : (b : BlockBuilder) (form : RowForm) (interval : ℕ) (rows : List Row) (row : Row) (delta : List ℕ) → has_differences form ≡ false → Holds b form interval rows
+    → IsRow form row → AreOrdered form (rows ++ row ∷ []) → sum_by row_room (rows ++ row ∷ []) + 8 < 2 ^ 29 → CanAdd b row delta
+can_add b form interval rows row delta plain holds has_form ordered room =
+    takes-plain b form interval rows row delta plain holds has_form ordered (omega (arith, block_of-le form interval (rows ++ row ∷ []), room))

@@ -19,6 +19,7 @@ pub enum BlockFault {
     BadKind(u32),
     /// A row of a data block whose bucket in the hash part doesn't lead to it. Not answered for now.
     BadHash(u32),
-    /// A row of an index block whose value isn't a block handle.
+    /// A row of an index block whose value isn't a block handle; where handles are differences, one that says none, or
+    /// one whose numbers aren't of 64 bits.
     BadHandle(u32),
 }

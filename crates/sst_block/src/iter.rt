@@ -1,8 +1,7 @@
 //! The walk over the rows of a block.
 ghost use Rattle.std.specs.Prelude.{◌≡◌, ◌⊎◌, ℕ, ◌+◌, ◌-◌, ◌*◌, ◌<◌, ◌≤◌, nat_lt, Bool, true, false, List, [], length, drop, Option, None, Some, slice_get, option_and_then};
 ghost use Rattle.sst_block.specs.declared.row_form.RowForm as forms;
-ghost use Rattle.sst_block.specs.Block.{Row, Spelled, Block};
-ghost use Rattle.sst_block.specs.Block.{no_handle};
+ghost use Rattle.sst_block.specs.Block.{Row, Spelled, Block, no_handle};
 ghost use Rattle.sst_block.specs.declared.row_form.RowForm.TheVariants.{Index};
 ghost use Rattle.sst_block.specs.BlockReading.{row_at};
 ghost use Rattle.sst_block.specs.IndexRows.{IndexPair, SayPairs};

@@ -50,8 +50,7 @@ pub fn each_group_begins_whole()
 /// Reading a block finds exactly the rows that its bytes stand for.
 ///
 /// What a block says is told by joined spellings and never by reading. `complete`: rows that the bytes stand for are
-/// read. `sound`: the bytes stand for rows that are read, if they are at most 2^29. It holds of each form whose
-/// handles stand as they are. RocksDB: `DecodeEntry` and
+/// read. `sound`: the bytes stand for rows that are read, if they are at most 2^29. RocksDB: `DecodeEntry` and
 /// `Block::NumRestarts` in table/block_based/block.cc.
 pub fn reading_finds_exactly_the_rows()
     ensures complete { (form : RowForm) (bytes : List ℕ) (rows : List Row)

@@ -50,13 +50,14 @@
 //!   specs/BlockReading.antt, which has the order). Nothing of a block is taken on trust. How much of a common front a row shares,
 //!   and which of the rows that share nothing are restarts, is free.
 //! - What is read is what the bytes stand for (`Block`, specs/Block.antt), whoever made them
-//!   ([`reading_finds_exactly_the_rows`], [`a_block_has_one_list_of_rows`], [`first_fault_is_first`]).
+//!   ([`reading_finds_exactly_the_rows`], [`a_block_has_one_list_of_rows`], [`first_fault_is_first`]). An index block says one list
+//!   of separators and handles (`IndexRows`, specs/IndexRows.antt, [`index_rows_are_one`]).
 //! - [`BlockIter`] goes over the rows of a block that was checked, forward and back, to the row at any restart, and to the first
 //!   row that isn't before a target ([`a_seek_passes_the_rows_before`]): there it halves the restarts and decodes the rows of one.
 //!   It says where its row begins. A key stays until the next move, and a value as long as the block. It takes no memory, and no
 //!   move fails.
 //!
-//! A block with a hash part, and index blocks whose handles are differences, are neither made nor read yet.
+//! A block with a hash part is neither made nor read yet.
 #![tactic(auto)]
 
 mod builder;

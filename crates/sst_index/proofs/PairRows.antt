@@ -1,14 +1,15 @@
 -- The rows of the pairs of an index block.
-use Rattle.std.proofs.Common.{◌≡◌, ℕ, ◌+◌, ◌^◌, inr, ◌<◌, ◌≤◌, Bool, true, false, List, [], ◌∷◌, ◌++◌, length, map, All, refl, sym, ap, ◌∙◌, subst, arith}
+use Rattle.std.proofs.Common.{◌≡◌, ℕ, ◌+◌, ◌^◌, ◌<◌, ◌≤◌, Bool, true, false, List, [], ◌∷◌, ◌++◌, length, map, All, refl, sym, ap, ◌∙◌, subst, arith}
 use Rattle.std.proofs.lemmas.List.Elements.{All-nil, All-cons, All-head, All-tail, All-append}
 use Rattle.sst_num.specs.Spelling.{handle_spelling}
 use Rattle.sst_num.specs.declared.block_handle.Handle.{Handle}
 use Rattle.sst_key.specs.Limits.{block_limit}
 use Rattle.sst_block.specs.declared.row_form.RowForm.TheVariants.{Index}
-use Rattle.sst_block.specs.Block.{Row, Spelled, Block, IsRow, AreOrdered}
-use Rattle.sst_block.specs.Builder.{Holds, CanAdd}
+use Rattle.sst_block.specs.Block.{Row, Spelled, Block, IsRow, AreOrdered, no_handle}
+use Rattle.sst_block.proofs.Size.{takes-plain, put-plain}
+use Rattle.sst_block.specs.Builder.{Holds, CanAdd, row_put}
 use Rattle.sst_block.specs.Chosen.{block_of}
-use Rattle.sst_block.specs.IndexRows.{IndexPair, IndexRows, SayPairs, no_handle}
+use Rattle.sst_block.specs.IndexRows.{IndexPair, IndexRows, SayPairs}
 use Rattle.sst_block.proofs.BlockLaws.{block_of_is_block}
 use Rattle.sst_index.specs.declared.flags.IndexFlags.{IndexFlags}
 use Rattle.sst_index.specs.declared.top.TopBuilder.{TopBuilder}
@@ -53,18 +54,13 @@ are_rows user_key delta (pair ∷ pairs) e are =
 -- the block builder takes the row of a pair that may come
 pub takes_row : (t : TopBuilder) (pair : IndexPair) (flags : IndexFlags) (interval : ℕ) (pairs : List IndexPair) → HoldsPairs t flags interval pairs → IsPair flags.user_key pair
     → AreOrdered (form_of flags) (rows_of_pairs flags interval (pairs ++ pair ∷ [])) → length (index_block flags interval (pairs ++ pair ∷ [])) < block_limit
-    → (value : List ℕ) → value ≡ handle_spelling pair.handle → CanAdd t.block (record { key = pair.separator; value = value })
+    → (value : List ℕ) → value ≡ handle_spelling pair.handle → CanAdd t.block (record { key = pair.separator; value = value }) []
 takes_row t pair flags interval pairs holds is ordered short value spelled =
     let more = rows-more flags interval pairs pair holds.whole in
-    rw spelled (inr (record {
-      form = form_of flags;
-      interval = interval;
-      rows = rows_of_pairs flags interval pairs;
-      holds = holds.block;
-      has_form = is_row flags.user_key flags.delta pair holds.whole is;
-      ordered = subst (λ (rows : List Row). AreOrdered (form_of flags) rows) more ordered;
-      short = subst (λ (rows : List Row). length (block_of (form_of flags) interval rows) < block_limit) more short;
-    }))
+    rw spelled (takes-plain t.block (form_of flags) interval (rows_of_pairs flags interval pairs) (whole_row pair) [] holds.whole holds.block
+    (is_row flags.user_key flags.delta pair holds.whole is)
+    (subst (λ (rows : List Row). AreOrdered (form_of flags) rows) more ordered)
+    (subst (λ (rows : List Row). length (block_of (form_of flags) interval rows) < block_limit) more short))
 
 -- a builder has one form
 pub one_form : (t : TopBuilder) (f g : IndexFlags) (i j : ℕ) (ps qs : List IndexPair) → HoldsPairs t f i ps → HoldsPairs t g j qs → f.user_key ≡ g.user_key
@@ -75,16 +71,19 @@ one_form t f g i j ps qs a b =
 -- with its row it holds the pair
 pub holds_more : (t new : TopBuilder) (pair : IndexPair) (flags : IndexFlags) (interval : ℕ) (pairs : List IndexPair) → HoldsPairs t flags interval pairs → IsPair flags.user_key pair
     → new.failed ≡ t.failed → (value : List ℕ) → value ≡ handle_spelling pair.handle
-    → (Holds t.block (form_of flags) interval (rows_of_pairs flags interval pairs) → Holds new.block (form_of flags) interval (rows_of_pairs flags interval pairs ++ record { key = pair.separator; value = value } ∷ []))
+    → (Holds t.block (form_of flags) interval (rows_of_pairs flags interval pairs) → Holds new.block (form_of flags) interval (rows_of_pairs flags interval pairs ++ row_put (form_of flags) interval (rows_of_pairs flags interval pairs) (record { key = pair.separator; value = value }) [] ∷ []))
     → HoldsPairs new flags interval (pairs ++ pair ∷ [])
 holds_more t new pair flags interval pairs holds is failed value spelled added =
+    let rows = rows_of_pairs flags interval pairs in
+    let put = subst (λ (r : Row). Holds new.block (form_of flags) interval (rows ++ r ∷ []))
+    (put-plain (form_of flags) interval rows (record { key = pair.separator; value = value }) [] holds.whole) (added holds.block) in
     record {
       sound = failed ∙ holds.sound;
       whole = holds.whole;
       pairs_are = All-append (IsPair flags.user_key) pairs (pair ∷ []) holds.pairs_are (All-cons (IsPair flags.user_key) pair [] is (All-nil (IsPair flags.user_key)));
       block = subst (λ (rows : List Row). Holds new.block (form_of flags) interval rows)
           (ap (λ (v : List ℕ). rows_of_pairs flags interval pairs ++ record { key = pair.separator; value = v } ∷ []) spelled ∙ sym (rows-more flags interval pairs pair holds.whole))
-          (added holds.block);
+          put;
     }
 
 -- rows whose handles stand whole say the pairs, however much they share
@@ -117,7 +116,7 @@ block_says user_key false interval pairs e positive are ordered short =
     let rows = index_rows false interval 0 [] no_handle pairs in
     let whole : rows ≡ map whole_row pairs = whole_rows false interval 0 [] no_handle pairs refl in
     let forms = subst (λ (r : List Row). All (IsRow (Index user_key false)) r) (sym whole) (are_rows user_key false pairs refl are) in
-    let block = block_of_is_block (Index user_key false) interval rows positive forms ordered short in
+    let block = block_of_is_block (Index user_key false) interval rows positive forms ordered tt short in
     says_whole user_key (block_of (Index user_key false) interval rows) pairs are
     (subst (λ (r : List Row). Block (Index user_key false) (block_of (Index user_key false) interval rows) r) whole block)
 

@@ -6,9 +6,9 @@ use Rattle.sst_num.specs.Spelling.{signed_varint, handle_spelling}
 use Rattle.sst_num.specs.declared.block_handle.Handle.{Handle}
 use Rattle.sst_block.specs.declared.row_form.RowForm.{RowForm}
 use Rattle.sst_block.specs.declared.row_form.RowForm.TheVariants.{Index}
-use Rattle.sst_block.specs.Block.{Row, common}
+use Rattle.sst_block.specs.Block.{Row, common, no_handle}
 use Rattle.sst_block.specs.Chosen.{block_of}
-use Rattle.sst_block.specs.IndexRows.{IndexPair, no_handle}
+use Rattle.sst_block.specs.IndexRows.{IndexPair}
 use Rattle.sst_index.specs.declared.flags.IndexFlags.{IndexFlags}
 
 -- the form of the rows

@@ -4,12 +4,11 @@
 //! table/block_based/block.cc.
 ghost use Rattle.std.specs.Prelude.{ℕ, ◌≤◌, ◌^◌, List, Option, length};
 ghost use Rattle.sst_block.specs.Block.{Row};
-ghost use Rattle.sst_block.specs.Builder.{HasNoFlags};
 ghost use Rattle.sst_block.specs.Iter.{Walks};
 
 use sst_block::{BlockBuilder, BlockFault, BlockIter, RowForm, check_block};
 use sst_key::KeyRoom;
-use sst_num::Refused;
+use sst_num::{Handle, Refused};
 use std::alloc::Global;
 use std::process::Abort;
 use std::test::Fail;
@@ -21,12 +20,12 @@ enum Kind {
     Entries,
     Index,
     UserKeys,
+    Differences,
+    UserDifferences,
 }
 
-/// The form of such rows. An index has whole handles, and stored keys or user keys.
-fn form_of(kind: Kind) -> RowForm
-    ensures { HasNoFlags result }
-{
+/// The form of such rows. An index has stored keys or user keys, and whole handles or differences.
+fn form_of(kind: Kind) -> RowForm {
     match kind {
         Kind::Names => RowForm::Names,
         Kind::Entries => RowForm::Entries,
@@ -38,6 +37,14 @@ fn form_of(kind: Kind) -> RowForm
             user_key: true,
             delta: false,
         },
+        Kind::Differences => RowForm::Index {
+            user_key: false,
+            delta: true,
+        },
+        Kind::UserDifferences => RowForm::Index {
+            user_key: true,
+            delta: true,
+        },
     }
 }
 
@@ -45,7 +52,7 @@ fn form_of(kind: Kind) -> RowForm
 type Rows = &'static [(&'static [u8], &'static [u8])];
 
 /// Sound blocks, and their rows.
-static SOUND: [(&[u8], Kind, Rows); 10] = [
+static SOUND: [(&[u8], Kind, Rows); 12] = [
     // No row, the one restart 0, and that there is one restart.
     (b"\0\0\0\0\x01\0\0\0", Kind::Names, &[]),
     (b"\0\0\0\0\x01\0\0\0", Kind::Entries, &[]),
@@ -77,6 +84,23 @@ static SOUND: [(&[u8], Kind, Rows); 10] = [
         Kind::UserKeys,
         &[(b"a", b"\x00\x15"), (b"ab", b"\x1a\xc8\x01")],
     ),
+    // The user keys ab and ad, and the handles of offset 0 and size 100, and of offset 105 and size 90. The second stands as
+    // the difference -10.
+    (
+        b"\x00\x02ab\x00\x64\x01\x01d\x13\0\0\0\0\x01\0\0\0",
+        Kind::UserDifferences,
+        &[(b"ab", b"\x00\x64"), (b"ad", b"\x13")],
+    ),
+    // The same with stored keys, and the key of c, which shares nothing, so that its handle is whole: offset 200, size 300.
+    (
+        b"\x00\x0aab\x01\x05\0\0\0\0\0\0\x00\x64\x01\x09d\x01\x03\0\0\0\0\0\0\x13\x00\x09c\x01\x03\0\0\0\0\0\0\xc8\x01\xac\x02\0\0\0\0\x01\0\0\0",
+        Kind::Differences,
+        &[
+            (b"ab\x01\x05\0\0\0\0\0\0", b"\x00\x64"),
+            (b"ad\x01\x03\0\0\0\0\0\0", b"\x13"),
+            (b"c\x01\x03\0\0\0\0\0\0", b"\xc8\x01\xac\x02"),
+        ],
+    ),
     // The rows a, ab and b, which begin at 0, 4 and 8, and of which the second shares a; the restarts are 0 and 8.
     (
         b"\x00\x01\x00a\x01\x01\x00b\x00\x01\x00b\0\0\0\0\x08\0\0\0\x02\0\0\0",
@@ -106,7 +130,6 @@ fn assert_rows(
     rows: &[(&[u8], &[u8])],
 ) -> Result<(), Fail>
     requires short { length block.now ≤ 2 ^ 29 }
-    requires form { HasNoFlags form }
 {
     let room = KeyRoom::new(alloc)?;
     let other = KeyRoom::new(alloc)?;
@@ -185,7 +208,7 @@ fn blocks_that_are_built(rt: HostRuntime) -> Result<(), Fail> {
 }
 
 /// Blocks that are refused, and their first faults.
-static FAULTY: [(&[u8], Kind, BlockFault); 25] = [
+static FAULTY: [(&[u8], Kind, BlockFault); 34] = [
     // Seven bytes; no restart; two restarts, which take 12 bytes; and bit 31, which says that there is a hash part.
     (b"\0\0\0\x01\0\0\0", Kind::Names, BlockFault::BadFooter),
     (b"\0\0\0\0\0\0\0\0", Kind::Names, BlockFault::BadFooter),
@@ -256,6 +279,55 @@ static FAULTY: [(&[u8], Kind, BlockFault); 25] = [
         Kind::UserKeys,
         BlockFault::Disorder(6),
     ),
+    // With differences: no handle, and one without its size; behind the handle of offset 0 and size 100 no difference, one
+    // that doesn't end, and -101.
+    (
+        b"\x00\x02ab\0\0\0\0\x01\0\0\0",
+        Kind::UserDifferences,
+        BlockFault::BadHandle(0),
+    ),
+    (
+        b"\x00\x02ab\x00\0\0\0\0\x01\0\0\0",
+        Kind::UserDifferences,
+        BlockFault::BadHandle(0),
+    ),
+    (
+        b"\x00\x02ab\x00\x64\x01\x01d\0\0\0\0\x01\0\0\0",
+        Kind::UserDifferences,
+        BlockFault::BadHandle(6),
+    ),
+    (
+        b"\x00\x02ab\x00\x64\x01\x01d\x80\0\0\0\0\x01\0\0\0",
+        Kind::UserDifferences,
+        BlockFault::BadHandle(6),
+    ),
+    (
+        b"\x00\x02ab\x00\x64\x01\x01d\xc9\x01\0\0\0\0\x01\0\0\0",
+        Kind::UserDifferences,
+        BlockFault::BadHandle(6),
+    ),
+    // The offset 2^64 - 6 and the size 1, behind which no block begins; and the size 2^63 + 1 with the difference 2^63 - 1.
+    (
+        b"\x00\x02ab\xfa\xff\xff\xff\xff\xff\xff\xff\xff\x01\x01\x01\x01d\x00\0\0\0\0\x01\0\0\0",
+        Kind::UserDifferences,
+        BlockFault::BadHandle(15),
+    ),
+    (
+        b"\x00\x02ab\x00\x81\x80\x80\x80\x80\x80\x80\x80\x80\x01\x01\x01d\xfe\xff\xff\xff\xff\xff\xff\xff\xff\x01\0\0\0\0\x01\0\0\0",
+        Kind::UserDifferences,
+        BlockFault::BadHandle(15),
+    ),
+    // A key without a tag comes before its handle, and a handle before the order.
+    (
+        b"\x00\x07\x01\0\0\0\0\0\0\x80\0\0\0\0\x01\0\0\0",
+        Kind::Differences,
+        BlockFault::BadRow(0),
+    ),
+    (
+        b"\x00\x02ab\x00\x64\x00\x01a\x80\0\0\0\0\x01\0\0\0",
+        Kind::UserDifferences,
+        BlockFault::BadHandle(6),
+    ),
     // A key twice, and b before a; the second row begins at 4.
     (
         b"\x00\x01\x00a\x00\x01\x00a\0\0\0\0\x01\0\0\0",
@@ -314,4 +386,48 @@ fn faulty_blocks(rt: HostRuntime) {
         let found = check_block(rt.alloc(), block, form_of(kind));
         assert_eq!(rt; found, Err(Refused::Cause(fault)), "at {block:?}");
     }
+}
+
+/// The user keys ab and ad with differences of handles, as among the sound blocks.
+const INDEX: &[u8] = b"\x00\x02ab\x00\x64\x01\x01d\x13\0\0\0\0\x01\0\0\0";
+
+// The offset 105 is 0 + 100 + 5, and the size 90 is 100 - 10.
+#[test]
+fn index_blocks(rt: HostRuntime) -> Result<(), Fail> {
+    let room = KeyRoom::new(rt.alloc())?;
+    let form = RowForm::Index {
+        user_key: true,
+        delta: true,
+    };
+    match check_block(rt.alloc(), INDEX, form) {
+        Ok(_) => {
+            let mut walk = BlockIter::start(INDEX, form, room);
+            let there = walk.first();
+            if there {
+                assert_eq!(rt;
+                    walk.handle(),
+                    Handle {
+                        offset: 0,
+                        size: 100
+                    }
+                );
+                let next = walk.next();
+                if next {
+                    assert_eq!(rt;
+                        walk.handle(),
+                        Handle {
+                            offset: 105,
+                            size: 90
+                        }
+                    );
+                } else {
+                    panic!(rt; "one row");
+                }
+            } else {
+                panic!(rt; "no row");
+            }
+        }
+        Err(refused) => panic!(rt; "refused: {refused:?}"),
+    }
+    Ok(())
 }

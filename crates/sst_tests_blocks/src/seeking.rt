@@ -4,7 +4,6 @@
 ghost use Rattle.std.specs.Prelude.{◌≡◌, ℕ, ◌≤◌, ◌^◌, true, List, length, Some};
 ghost use Rattle.sst_block.specs.Block.{Row};
 ghost use Rattle.sst_block.specs.Iter.{Walks};
-ghost use Rattle.sst_block.specs.Builder.{HasNoFlags};
 ghost use Rattle.sst_block.specs.Seek.{IsTarget};
 
 use sst_block::{BlockIter, RowForm, check_block};
@@ -61,7 +60,6 @@ static ENTRIES_SOUGHT: [Sought; 5] = [
 /// A walk over the block goes from its restarts to this target: to the row with this key, or to nowhere.
 fn assert_sought(rt: &impl Abort, alloc: Global, form: RowForm, sought: Sought) -> Result<(), Fail>
     requires short { length sought.0.now ≤ 2 ^ 29 }
-    requires form { HasNoFlags form }
     requires target { IsTarget form sought.1.now }
 {
     let (block, target, key) = sought;

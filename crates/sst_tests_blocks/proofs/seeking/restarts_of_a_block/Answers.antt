@@ -10,14 +10,14 @@ start-walk-requires g c = let found = c.in-Ok.ensures.accepts in (found.0, found
 pub at_restart-last-requires : goal.at_restart-last-requires
 at_restart-last-requires g c =
     let (rows, block, many) = c.in-Ok.ensures.accepts in
-    let w = c.start-walk.ensures.within tt rows block in
+    let w = c.start-walk.ensures.within rows block in
     let count = c.restarts-count.ensures Names _ rows block None w in
     (Names, _, rows, block, None, w, omega (arith, count.0, count.1))
 
 pub assert_at-requires : goal.assert_at-requires
 assert_at-requires g c = λ is.
     let (rows, block, many) = c.in-Ok.ensures.accepts in
-    let w = c.start-walk.ensures.within tt rows block in
+    let w = c.start-walk.ensures.within rows block in
     let count = c.restarts-count.ensures Names _ rows block None w in
     let (k, at, there, told, row) = c.at_restart-last.ensures.within Names _ rows block None w (omega (arith, count.0, count.1)) in
     Moved-stands _ _ (record { rows = rows; i = k; walks = walks-of _ Names _ rows block _ there; told = told }) is
@@ -25,7 +25,7 @@ assert_at-requires g c = λ is.
 pub at_restart-first-requires : goal.at_restart-first-requires
 at_restart-first-requires g c =
     let (rows, block, many) = c.in-Ok.ensures.accepts in
-    let w = c.start-walk.ensures.within tt rows block in
+    let w = c.start-walk.ensures.within rows block in
     let count = c.restarts-count.ensures Names _ rows block None w in
     let (k, at, there, told, row) = c.at_restart-last.ensures.within Names _ rows block None w (omega (arith, count.0, count.1)) in
     (Names, _, rows, block, place_of rows k, there, omega (arith, count.0, count.1))
@@ -33,7 +33,7 @@ at_restart-first-requires g c =
 pub assert_at-requires-in-Ok : goal.assert_at-requires-in-Ok
 assert_at-requires-in-Ok g c = λ is.
     let (rows, block, many) = c.in-Ok.ensures.accepts in
-    let w = c.start-walk.ensures.within tt rows block in
+    let w = c.start-walk.ensures.within rows block in
     let count = c.restarts-count.ensures Names _ rows block None w in
     let (k, at, there, told, row) = c.at_restart-last.ensures.within Names _ rows block None w (omega (arith, count.0, count.1)) in
     let (j, begins, here, tells, second) = c.at_restart-first.ensures.within Names _ rows block (place_of rows k) there (omega (arith, count.0, count.1)) in
