@@ -1,14 +1,12 @@
 -- What a run of a `get` comes to.
-use Rattle.std.proofs.Common.{◌≡◌, ◌⊎◌, ℕ, List, Option, Some, sym, ap, subst, ◌∙◌, inl, inr}
-use Rattle.std.specs.Io.KnownBytes.{append_known}
+use Rattle.std.proofs.Common.{◌≡◌, ◌⊎◌, ℕ, List, Option, Some, ap, subst, ◌∙◌}
 use Rattle.sst_key.specs.declared.entries.Entry.{Entry}
 use Rattle.sst_key.specs.declared.calls.Target.{Target}
 use Rattle.sst_device.specs.Folder.{file_of}
 use Rattle.sst_bbt_spec.specs.BlockBased.{BlockBased, Opens}
-use Rattle.sst_bbt_spec.specs.Way.{IndexedBlock, joined, way_get}
+use Rattle.sst_bbt_spec.specs.Way.{IndexedBlock, joined}
 use Rattle.sst_bbt_spec.proofs.Stands.{opens-seqs, stands-separate}
 use Rattle.sst_bbt_spec.proofs.WayLaws.{get-same}
-use Rattle.sst_key.specs.ListMachine.{get_of}
 use Rattle.sst_cli.specs.Behaviour.{World, IsFault, Ends}
 use Rattle.sst_cli.specs.Command.{behaviour, command_of}
 use Rattle.sst_cli.specs.GetCommand.{get_command, got_text, way_got_text, found_text, entry_at}

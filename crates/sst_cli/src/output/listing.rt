@@ -56,7 +56,8 @@ impl LastUser {
         }
     }
 
-    /// Keeps the user key of an entry. Takes memory only where there is too little room for it.
+    /// Keeps the user key of an entry. Takes memory only where there is too little room for it; where it runs out, nothing is
+    /// said of what is kept.
     fn keep(&mut self, entry: EntryView<'_>) -> Result<(), Memory>
         ensures { OnOk result (self.new ≡ Some entry.entry.user.now) }
     {

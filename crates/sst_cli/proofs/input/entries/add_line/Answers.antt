@@ -1,4 +1,4 @@
-use Rattle.std.proofs.Common.{List, ◌<◌, ◌^◌, sym, ap, ◌∙◌, subst}
+use Rattle.std.proofs.Common.{List, ap, ◌∙◌}
 use Rattle.std.proofs.lemmas.Result.{on_ok_weaker}
 use Rattle.sst_key.specs.Entry.{entry_of}
 use Rattle.sst_key.specs.declared.entries.Entry.{Entry}
