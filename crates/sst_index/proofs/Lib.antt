@@ -1,2 +1,12 @@
 pub mod Separated
 pub mod PairRows
+pub mod Added
+pub mod Order
+pub mod Room
+pub mod Ready
+pub mod Parts
+pub mod PartsPut
+pub mod Kept
+pub mod TopKeys
+pub mod Fronts
+pub mod Says

@@ -12,7 +12,7 @@ use Rattle.sst_block.specs.IndexRows.{IndexPair}
 use Rattle.sst_index.specs.declared.flags.IndexFlags.{IndexFlags}
 
 -- the form of the rows
--- Pinned by: finish.block
+-- Pinned by: finish.says
 abbrev pub form_of : IndexFlags → RowForm
 form_of flags = Index flags.user_key flags.delta
 
@@ -38,6 +38,8 @@ index_rows delta interval i key before (pair ∷ pairs) =
     } ∷ index_rows delta interval (i + 1) pair.separator pair.handle pairs
 
 -- all rows of the pairs
+-- RocksDB: table/block_based/index_builder.h, AddIndexEntry
+-- Pinned by: an_index_block_says_its_pairs
 abbrev pub rows_of_pairs : IndexFlags → ℕ → List IndexPair → List Row
 rows_of_pairs flags interval pairs = index_rows flags.delta interval 0 [] no_handle pairs
 

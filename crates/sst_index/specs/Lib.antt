@@ -1,3 +1,7 @@
 pub mod Separators
 pub mod IndexBlock
 pub mod Top
+pub mod Ends
+pub mod IndexBytes
+pub mod Index
+pub mod Parted

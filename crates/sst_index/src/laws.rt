@@ -1,5 +1,6 @@
 //! Laws: where a separator stands, and what an index block says.
 ghost use Rattle.std.specs.Prelude.{◌≡◌, ◌≢◌, ℕ, ◌^◌, ◌<◌, ◌≤◌, false, List, length, All};
+ghost use Rattle.std.specs.List.{flat_map};
 ghost use Rattle.std.specs.Ordering.{nat_cmp};
 ghost use Rattle.std.specs.Cmp.Lexicographic.{slice_cmp};
 ghost use Rattle.std.specs.declared.cmp.Ordering.TheVariants.{Less, Greater};
@@ -7,6 +8,9 @@ ghost use Rattle.sst_key.specs.InternalKey.{user_of, internal_cmp};
 ghost use Rattle.sst_block.specs.Block.{AreOrdered};
 ghost use Rattle.sst_block.specs.IndexRows.{IndexPair, IndexRows};
 ghost use Rattle.sst_index.specs.declared.flags.IndexFlags.{IndexFlags};
+ghost use Rattle.sst_index.specs.Ends.{AreEnds, BlockEnd, flags_of, pairs_of};
+ghost use Rattle.sst_index.specs.Index.{AreOptions};
+ghost use Rattle.sst_index.specs.IndexBytes.{IndexOptions, parts_of, top_block, top_pairs};
 ghost use Rattle.sst_index.specs.IndexBlock.{form_of, index_block, rows_of_pairs};
 ghost use Rattle.sst_index.specs.Separators.{separator_between, separator_after};
 ghost use Rattle.sst_index.specs.Top.{IsPair};
@@ -48,4 +52,31 @@ pub fn an_index_block_says_its_pairs()
         → All (IsPair flags.user_key) pairs → AreOrdered (form_of flags) (rows_of_pairs flags interval pairs)
         → length (index_block flags interval pairs) ≤ 2 ^ 29
         → IndexRows flags.user_key flags.delta (index_block flags interval pairs) pairs }
+{}
+
+/// The blocks of an index say the pairs that lead to its data blocks.
+///
+/// `partitions`: each partition says its part of the pairs. `top`: the top block says all of them where there are no
+/// partitions, and else the last separator of each partition, and where that stands, one behind the other from `base` on.
+/// It holds of data blocks that a builder takes, and of versions of the format in which handles stand whole.
+/// RocksDB: `PartitionedIndexBuilder::Finish` in table/block_based/index_builder.cc.
+pub fn an_index_says_its_pairs()
+    ensures partitions { (o : IndexOptions) (blocks : List BlockEnd) → AreOptions o → AreEnds blocks
+        → All (λ (part : List IndexPair). IndexRows (flags_of o.version blocks).user_key (flags_of o.version blocks).delta
+        (index_block (flags_of o.version blocks) o.interval part) part)
+        (parts_of o.parts (pairs_of o.version blocks)) }
+    ensures top { (o : IndexOptions) (base : ℕ) (blocks : List BlockEnd) → AreOptions o → AreEnds blocks → base < 2 ^ 40
+        → IndexRows (flags_of o.version blocks).user_key (flags_of o.version blocks).delta
+        (top_block (flags_of o.version blocks) o.interval o.parts base (pairs_of o.version blocks))
+        (top_pairs (flags_of o.version blocks) o.interval o.parts base (pairs_of o.version blocks)) }
+{}
+
+/// The partitions have all pairs, in their order.
+///
+/// `each`: a partition has a row, and no more than so many.
+/// RocksDB: `PartitionedIndexBuilder::AddIndexEntry` in table/block_based/index_builder.h.
+pub fn partitions_are_the_pairs()
+    ensures joined { (k : ℕ) (pairs : List IndexPair) → 0 < k → flat_map (λ (part : List IndexPair). part) (parts_of k pairs) ≡ pairs }
+    ensures each { (k : ℕ) (pairs : List IndexPair) → 0 < k
+        → All (λ (part : List IndexPair). (0 < length part) × (length part ≤ k)) (parts_of k pairs) }
 {}

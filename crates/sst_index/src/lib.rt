@@ -1,8 +1,10 @@
-//! The index of a table: which key stands between two of its blocks.
+//! The index of a table: which keys stand between its data blocks, and the index blocks that lead from them to the data
+//! blocks.
 //!
-//! An index leads from keys to data blocks. The key that stands for a data block is its separator: it isn't before the last
-//! key of the block, and is before the first key of the next one. So a target is in the first block whose separator isn't
-//! before it, or nowhere. A separator need not be a key of the table, and a short one keeps the index small.
+//! The key that stands for a data block is its separator: it isn't before the last key of the block, and is before the first
+//! key of the next one. So a target is in the first block whose separator isn't before it, or nowhere. A separator need not be a
+//! key of the table, and a short one keeps the index small. An index block is a block of `sst_block` whose rows are pairs of a
+//! separator and the handle of the block to which it leads.
 //!
 //! # Separators
 //!
@@ -11,8 +13,6 @@
 //! something follows and the raised byte is still below that of the next key. Behind it stands the greatest tag, eight bytes
 //! FF. Else the separator is the last key itself. Behind the last block there is no next key; there the first byte that isn't
 //! FF is raised, if something follows.
-//!
-//! # Example
 //!
 //! ```text
 //! last user key   first of the next   user key of the separator
@@ -25,22 +25,71 @@
 //! FF FF                               FF FF
 //! ```
 //!
+//! From version 3 of the format on, the separators of a table are user keys, with no tag, exactly where no two neighbouring
+//! blocks share a user key. From version 4 on a handle may be told by its difference from the one before.
+//!
+//! # Layout
+//!
+//! An index is one block that leads to all data blocks, or it has two levels: partitions of so many rows, the last perhaps
+//! with fewer, and behind them the top block, which leads to each partition by its last separator. An index of no data block has
+//! a top block with no row. Each block is stored with its trailer.
+//!
+//! ```text
+//! | partition | trailer | .. | partition | trailer | top block | trailer |
+//! ```
+//!
+//! # Example
+//!
+//! The index of the three data blocks of 80 bytes at 0, 85 and 170, each with an entry of the user key k, at the sequence
+//! numbers 9, 5 and 2. It begins at 255, and a partition has two rows, each of which is a restart. As the blocks share a user
+//! key, the separators are their last keys:
+//!
+//! ```text
+//! at  bytes                                        what they are
+//! 255 00 09 02 6B 01 09 00 00 00 00 00 00 00 50    k at 9 leads to 0, 80 bytes
+//! 269 00 09 02 6B 01 05 00 00 00 00 00 00 55 50    k at 5 leads to 85, 80 bytes
+//! 283 00 00 00 00 0E 00 00 00 02 00 00 00          two restarts, at 0 and 14
+//! 295 00 C8 12 B4 72                               the trailer
+//! 300 00 09 03 6B 01 02 00 00 00 00 00 00 AA 01 50 k at 2 leads to 170, 80 bytes
+//! 315 00 00 00 00 01 00 00 00                      the one restart
+//! 323 00 A7 BF 17 D9                               the trailer
+//! 328 00 09 03 6B 01 05 00 00 00 00 00 00 FF 01 28 k at 5 leads to 255, 40 bytes
+//! 343 00 09 03 6B 01 02 00 00 00 00 00 00 AC 02 17 k at 2 leads to 300, 23 bytes
+//! 358 00 00 00 00 0F 00 00 00 02 00 00 00          two restarts
+//! 370 00 5D D7 43 9C                               the trailer
+//! ```
+//!
 //! # Promises
 //!
 //! - [`put_separator`] appends the separator (`separator_of`, specs/Separators.antt), and takes no other memory.
 //! - A separator separates, among stored keys, and also by user keys alone where the two user keys differ; and it is no longer
 //!   than the last key ([`a_separator_separates`], [`a_separator_ends`]).
+//! - [`TopBuilder`] makes the one index block of its pairs (`index_block`, specs/IndexBlock.antt), and that block says these pairs
+//!   (`IndexRows` of `sst_block`; [`an_index_block_says_its_pairs`]).
+//! - [`IndexBuilder`] takes where the data blocks end, and appends the bytes of their index (`index_bytes`,
+//!   specs/IndexBytes.antt). It tells the flags of the index, and the keys of its top block. It keeps each separator once.
+//! - Each partition says its part of the pairs, and the top block says where each partition stands, by its last separator
+//!   ([`an_index_says_its_pairs`]); the partitions have all pairs ([`partitions_are_the_pairs`]).
+//! - Where memory runs out a call answers so, and so does each later call of that builder that can fail.
 //!
-//! RocksDB: table/block_based/index_builder.h and index_builder.cc, and util/comparator.cc. RocksDB shortens in more cases;
-//! which keys are shortened is this project's own.
+//! Handles that are differences are not written yet.
+//!
+//! RocksDB: table/block_based/index_builder.h and index_builder.cc, and util/comparator.cc. RocksDB shortens separators in more
+//! cases, and ends a partition by its size; which keys are shortened and how many rows a partition has is this project's own.
 #![tactic(auto)]
 
+mod builder;
 mod flags;
 mod laws;
 mod separators;
 mod top;
+mod writing;
 
+pub use builder::IndexBuilder;
 pub use flags::IndexFlags;
-pub use laws::{a_separator_ends, a_separator_separates, an_index_block_says_its_pairs};
+pub use laws::{
+    a_separator_ends, a_separator_separates, an_index_block_says_its_pairs,
+    an_index_says_its_pairs, partitions_are_the_pairs,
+};
 pub use separators::put_separator;
 pub use top::TopBuilder;

@@ -1,1 +1,2 @@
 pub mod BackWalks
+pub mod LedBlocks

@@ -1,11 +1,16 @@
-//! Tests of the index: the keys that stand between blocks.
+//! Tests of the index: the keys that stand between blocks, and the bytes of some indexes.
 //!
-//! RocksDB: `FindShortestSeparator` and `FindShortSuccessor` in util/comparator.cc.
-ghost use Rattle.std.specs.Prelude.{◌≤◌, length, IfOk};
+//! RocksDB: `FindShortestSeparator` and `FindShortSuccessor` in util/comparator.cc, `ShortenedIndexBuilder` and
+//! `PartitionedIndexBuilder` in table/block_based/index_builder.h.
+ghost use Rattle.std.specs.Prelude.{◌≤◌, [], length, IfOk, OnOk};
+ghost use Rattle.sst_index.specs.Ends.{AreEnds};
+ghost use Rattle.sst_index.specs.Index.{Holds};
+ghost use Rattle.sst_index.specs.IndexBytes.{IndexOptions};
+ghost use Rattle.sst_tests_blocks.specs.LedBlocks.{ends_of};
 
-use sst_index::put_separator;
+use sst_index::{IndexBuilder, put_separator};
 use sst_key::{Kind, pack};
-use sst_num::Memory;
+use sst_num::{Handle, Memory};
 use std::alloc::Global;
 use std::test::Fail;
 
@@ -66,5 +71,133 @@ fn separators(rt: HostRuntime) -> Result<(), Fail> {
         }
         assert_eq!(rt; found, expected);
     }
+    Ok(())
+}
+
+/// Adds data blocks: the last key of each, the first key of the next, and where it stands.
+fn add_blocks(
+    builder: &mut IndexBuilder,
+    blocks: &[(&[u8], Option<&[u8]>, Handle)],
+) -> Result<(), Memory>
+    requires state { (options : IndexOptions) × Holds builder.old options [] }
+    requires ends { AreEnds (ends_of blocks.now) }
+    ensures { OnOk result ((options : IndexOptions) → Holds builder.old options [] → Holds builder.new options (ends_of blocks.now)) }
+{
+    for &(last, next_first, handle) in blocks {
+        builder.add(last, next_first, handle)?;
+    }
+    Ok(())
+}
+
+/// Three blocks of one entry each, whose user key is k, at the sequence numbers 9, 5 and 2.
+const SHARING: [(&[u8], Option<&[u8]>, Handle); 3] = [
+    (
+        b"k\x01\x09\0\0\0\0\0\0",
+        Some(b"k\x01\x05\0\0\0\0\0\0"),
+        Handle {
+            offset: 0,
+            size: 80,
+        },
+    ),
+    (
+        b"k\x01\x05\0\0\0\0\0\0",
+        Some(b"k\x01\x02\0\0\0\0\0\0"),
+        Handle {
+            offset: 85,
+            size: 80,
+        },
+    ),
+    (
+        b"k\x01\x02\0\0\0\0\0\0",
+        None,
+        Handle {
+            offset: 170,
+            size: 80,
+        },
+    ),
+];
+
+/// Two partitions of two rows and of one, each row a restart, and the top block; they stand from 255 on.
+const IN_PARTS: &[u8] =
+    b"\0\x09\x02k\x01\x09\0\0\0\0\0\0\0\x50\0\x09\x02k\x01\x05\0\0\0\0\0\0\x55\x50\
+\0\0\0\0\x0e\0\0\0\x02\0\0\0\0\xc8\x12\xb4r\
+\0\x09\x03k\x01\x02\0\0\0\0\0\0\xaa\x01\x50\0\0\0\0\x01\0\0\0\0\xa7\xbf\x17\xd9\
+\0\x09\x03k\x01\x05\0\0\0\0\0\0\xff\x01\x28\0\x09\x03k\x01\x02\0\0\0\0\0\0\xac\x02\x17\
+\0\0\0\0\x0f\0\0\0\x02\0\0\0\0\x5d\xd7\x43\x9c";
+
+/// The index of the same blocks as one block.
+const WHOLE: &[u8] = b"\0\x09\x02k\x01\x09\0\0\0\0\0\0\0\x50\0\x09\x02k\x01\x05\0\0\0\0\0\0\x55\x50\
+\0\x09\x03k\x01\x02\0\0\0\0\0\0\xaa\x01\x50\
+\0\0\0\0\x0e\0\0\0\x1c\0\0\0\x03\0\0\0\0\x86\x0d\x29\x56";
+
+// In version 2, two rows a partition; and in version 3, where the blocks share a user key, so separators are stored keys.
+#[test]
+fn index_of_blocks_that_share(rt: HostRuntime) -> Result<(), Fail> {
+    let mut builder = IndexBuilder::new(rt.alloc(), 2, 1, 2)?;
+    add_blocks(&mut builder, &SHARING)?;
+    assert_eq!(rt; builder.separator(0), b"k\x01\x05\0\0\0\0\0\0".as_slice());
+    assert_eq!(rt; builder.separator(1), b"k\x01\x02\0\0\0\0\0\0".as_slice());
+    let mut out = Vec::new(rt.alloc());
+    let top = builder.finish(255, &mut out)?;
+    assert_eq!(rt; out.as_slice(), IN_PARTS);
+    assert_eq!(rt; (top.offset, top.size), (328, 42));
+    let mut builder = IndexBuilder::new(rt.alloc(), 3, 1, 0)?;
+    add_blocks(&mut builder, &SHARING)?;
+    assert!(rt; !builder.flags().user_key);
+    let mut out = Vec::new(rt.alloc());
+    let top = builder.finish(255, &mut out)?;
+    assert_eq!(rt; out.as_slice(), WHOLE);
+    assert_eq!(rt; (top.offset, top.size), (255, 59));
+    Ok(())
+}
+
+/// Two blocks of one entry each, whose user keys are ab and aq, at the sequence number 3.
+const APART: [(&[u8], Option<&[u8]>, Handle); 2] = [
+    (
+        b"ab\x01\x03\0\0\0\0\0\0",
+        Some(b"aq\x01\x03\0\0\0\0\0\0"),
+        Handle {
+            offset: 0,
+            size: 81,
+        },
+    ),
+    (
+        b"aq\x01\x03\0\0\0\0\0\0",
+        None,
+        Handle {
+            offset: 86,
+            size: 81,
+        },
+    ),
+];
+
+/// Their index in version 3: the separators are user keys, of which the first stays and the last is short.
+const USER_KEYS: &[u8] =
+    b"\0\x02\x02ab\0\x51\0\x01\x02b\x56\x51\0\0\0\0\x07\0\0\0\x02\0\0\0\0a\x0d\x1a\xbd";
+
+#[test]
+fn index_of_user_keys(rt: HostRuntime) -> Result<(), Fail> {
+    let mut builder = IndexBuilder::new(rt.alloc(), 3, 1, 0)?;
+    add_blocks(&mut builder, &APART)?;
+    assert!(rt; builder.flags().user_key);
+    assert_eq!(rt; builder.separator(0), b"ab".as_slice());
+    let mut out = Vec::new(rt.alloc());
+    builder.finish(172, &mut out)?;
+    assert_eq!(rt; out.as_slice(), USER_KEYS);
+    Ok(())
+}
+
+/// No row, the one restart 0, that there is one restart, and the trailer.
+const EMPTY: &[u8] = b"\0\0\0\0\x01\0\0\0\0\xc0\xf2\xa1\xb0";
+
+// An index of no block has a top block with no row, and its separators are user keys.
+#[test]
+fn index_of_no_block(rt: HostRuntime) -> Result<(), Fail> {
+    let builder = IndexBuilder::new(rt.alloc(), 3, 1, 2)?;
+    assert!(rt; builder.flags().user_key);
+    let mut out = Vec::new(rt.alloc());
+    let top = builder.finish(0, &mut out)?;
+    assert_eq!(rt; out.as_slice(), EMPTY);
+    assert_eq!(rt; (top.offset, top.size), (0, 8));
     Ok(())
 }

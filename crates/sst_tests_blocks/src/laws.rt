@@ -7,7 +7,10 @@ use sst_block::{
     a_block_has_one_list_of_rows, chosen_block_stands_for_its_rows, each_group_begins_whole,
     first_fault_is_first, reading_finds_exactly_the_rows,
 };
-use sst_index::{a_separator_ends, a_separator_separates};
+use sst_index::{
+    a_separator_ends, a_separator_separates, an_index_block_says_its_pairs,
+    an_index_says_its_pairs, partitions_are_the_pairs,
+};
 use sst_meta::{
     a_file_loads_as_it_says, a_footer_is_read, a_footer_reads_back, a_meta_fault_is_shown,
     a_name_has_one_value, properties_have_one_restart, the_fault_of_loading_is_the_first,
@@ -24,9 +27,12 @@ fn of_blocks(_rt: HostRuntime) {
 }
 
 #[test]
-fn of_separators(_rt: HostRuntime) {
+fn of_an_index(_rt: HostRuntime) {
     a_separator_separates();
     a_separator_ends();
+    an_index_block_says_its_pairs();
+    an_index_says_its_pairs();
+    partitions_are_the_pairs();
 }
 
 #[test]
