@@ -1,5 +1,5 @@
 #!/usr/bin/env bash
-# Counts the instructions that `sst write` and `sst calls` take for an entry, by function.
+# Counts the instructions that `sst write`, `sst calls` and `sst scan` take for an entry, by function.
 #
 #   bash bench/instructions.sh [COUNT]        20,000 entries where no number is given
 #
@@ -76,6 +76,8 @@ for times in 1 2; do
     calls $((times * count)) >"$room/calls.$times" || die 'the calls were not made'
     counted "write.$times" "list.$times" write block "$times.sst"
     counted "calls.$times" "calls.$times" calls "$times.sst"
+    counted "scan.$times" /dev/null scan "$times.sst"
 done
 table write
 table calls
+table scan
