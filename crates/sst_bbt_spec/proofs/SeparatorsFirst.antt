@@ -9,9 +9,8 @@ use Rattle.sst_key.specs.InternalKey.{user_of, tag_of, internal_cmp}
 use Rattle.sst_key.proofs.TargetOrder.{before-in_words}
 use Rattle.sst_num.specs.declared.block_handle.Handle.{Handle}
 use Rattle.sst_block.specs.declared.row_form.RowForm.TheVariants.{Index}
-use Rattle.sst_block.specs.Block.{Row, Spelled, AreOrdered, key_cmp}
+use Rattle.sst_block.specs.Block.{Row, Spelled, AreOrdered, key_cmp, no_handle}
 use Rattle.sst_block.specs.IndexRows.{IndexPair, SayPairs, IndexRows}
-use Rattle.sst_block.specs.Block.{no_handle}
 use Rattle.sst_bbt_spec.specs.Way.{is_separator_before, seek_tag, seek_for_prev_tag}
 use Rattle.sst_bbt_spec.specs.Parts.{separator_of}
 use Rattle.sst_bbt_spec.specs.Mark.{is_user_before, is_before_seek, is_before_prev}

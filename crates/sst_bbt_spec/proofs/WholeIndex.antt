@@ -9,9 +9,8 @@ use Rattle.sst_key.specs.declared.calls.Call.{Call}
 use Rattle.sst_key.specs.declared.calls.Call.TheVariants.{Get, First, Last, Seek, SeekForPrev, Next, Prev}
 use Rattle.sst_key.specs.ListMachine.{is_before_target, is_up_to_target, is_of_user, where_passes, place_in, first_of, last_of, steps_on, shows, lands}
 use Rattle.sst_block.specs.declared.row_form.RowForm.TheVariants.{Index}
-use Rattle.sst_block.specs.Block.{Row, IsRow}
+use Rattle.sst_block.specs.Block.{Row, IsRow, no_handle}
 use Rattle.sst_block.specs.IndexRows.{IndexPair}
-use Rattle.sst_block.specs.Block.{no_handle}
 use Rattle.sst_meta.specs.BlockFooter.{footer_start}
 use Rattle.sst_bbt_spec.specs.Way.{IndexedBlock, joined, passed, last_passed, is_separator_before, seek_tag, seek_for_prev_tag, way_seek, way_get, way_seek_for_prev, way_answer, way_replies_from}
 use Rattle.sst_bbt_spec.specs.Runs.{Lead, AreSeparated, BeginsAfter, IsAfterAll}
