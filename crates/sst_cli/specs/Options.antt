@@ -8,10 +8,12 @@ use Rattle.sst_bbt_write.specs.declared.bbt_options.BbtOptions.{BbtOptions}
 use Rattle.sst_cli.specs.declared.options.Said.{Said}
 
 -- what stands behind this front of a word; nothing where the word has another front
+-- Pinned by: words_that_are_no_command, good_options
 abbrev pub behind : List ℕ → List ℕ → Option (List ℕ)
 behind front word = if bytes_eq (take (length front) word) front then Some (drop (length front) word) else None
 
 -- a number, if it is no less than one and no greater than another
+-- Pinned by: words_that_are_no_command, good_options
 abbrev pub number_within : ℕ → ℕ → ℕ → Option ℕ
 number_within least most n = if nat_le least n && nat_le n most then Some n else None
 
@@ -39,6 +41,7 @@ unfoldable pub index_restart_number : List ℕ → Option ℕ
 index_restart_number word = option_number (codes "index-restart=") 1 65536 word
 
 -- nothing is said yet
+-- Pinned by: good_options, forty_entries
 abbrev pub none_said : Said
 none_said = record { block_size = None; restart = None; index_restart = None }
 
@@ -50,18 +53,21 @@ once None n = Some n
 once (Some m) n = None
 
 -- the word is none of the options but the last, or is that
+-- Pinned by: good_options, words_that_are_no_command
 abbrev pub say_index_restart : Option ℕ → Said → Option Said
 say_index_restart None said = None
 say_index_restart (Some n) said =
     option_map (λ m. record { block_size = said.block_size; restart = said.restart; index_restart = Some m }) (once said.index_restart n)
 
 -- the word isn't the first option: it is the second, or a later one
+-- Pinned by: good_options, words_that_are_no_command
 abbrev pub say_restart : Option ℕ → List ℕ → Said → Option Said
 say_restart None word said = say_index_restart (index_restart_number word) said
 say_restart (Some n) word said =
     option_map (λ m. record { block_size = said.block_size; restart = Some m; index_restart = said.index_restart }) (once said.restart n)
 
 -- the word is the first option, or a later one
+-- Pinned by: good_options, words_that_are_no_command
 abbrev pub say_block : Option ℕ → List ℕ → Said → Option Said
 say_block None word said = say_restart (restart_number word) word said
 say_block (Some n) word said =
@@ -79,6 +85,7 @@ say_all [] said = Some said
 say_all (word ∷ rest) said = option_and_then (λ now. say_all rest now) (say word said)
 
 -- a number, or its default where nothing is said
+-- Pinned by: good_options, forty_entries
 abbrev pub or_default : Option ℕ → ℕ → ℕ
 or_default None n = n
 or_default (Some m) n = m

@@ -19,7 +19,7 @@
 //! 61 61 61        63 61               62
 //! 61 61 61        61 63 61            61 62
 //! 61 61 61        62 61 61            61 61 61    the raised byte would be 62 too
-//! 61 FF 61        62 61               61 FF 61
+//! 61 ff 61        62 61               61 FF 61
 //! 61 61                               62
 //! 61                                  61          nothing follows
 //! FF FF                               FF FF
@@ -46,17 +46,17 @@
 //!
 //! ```text
 //! at  bytes                                        what they are
-//! 255 00 09 02 6B 01 09 00 00 00 00 00 00 00 50    k at 9 leads to 0, 80 bytes
-//! 269 00 09 02 6B 01 05 00 00 00 00 00 00 55 50    k at 5 leads to 85, 80 bytes
-//! 283 00 00 00 00 0E 00 00 00 02 00 00 00          two restarts, at 0 and 14
-//! 295 00 C8 12 B4 72                               the trailer
-//! 300 00 09 03 6B 01 02 00 00 00 00 00 00 AA 01 50 k at 2 leads to 170, 80 bytes
+//! 255 00 09 02 6b 01 09 00 00 00 00 00 00 00 50    k at 9 leads to 0, 80 bytes
+//! 269 00 09 02 6b 01 05 00 00 00 00 00 00 55 50    k at 5 leads to 85, 80 bytes
+//! 283 00 00 00 00 0e 00 00 00 02 00 00 00          two restarts, at 0 and 14
+//! 295 00 c8 12 b4 72                               the trailer
+//! 300 00 09 03 6b 01 02 00 00 00 00 00 00 aa 01 50 k at 2 leads to 170, 80 bytes
 //! 315 00 00 00 00 01 00 00 00                      the one restart
-//! 323 00 A7 BF 17 D9                               the trailer
-//! 328 00 09 03 6B 01 05 00 00 00 00 00 00 FF 01 28 k at 5 leads to 255, 40 bytes
-//! 343 00 09 03 6B 01 02 00 00 00 00 00 00 AC 02 17 k at 2 leads to 300, 23 bytes
-//! 358 00 00 00 00 0F 00 00 00 02 00 00 00          two restarts
-//! 370 00 5D D7 43 9C                               the trailer
+//! 323 00 a7 bf 17 d9                               the trailer
+//! 328 00 09 03 6b 01 05 00 00 00 00 00 00 ff 01 28 k at 5 leads to 255, 40 bytes
+//! 343 00 09 03 6b 01 02 00 00 00 00 00 00 ac 02 17 k at 2 leads to 300, 23 bytes
+//! 358 00 00 00 00 0f 00 00 00 02 00 00 00          two restarts
+//! 370 00 5d d7 43 9c                               the trailer
 //! ```
 //!
 //! # Promises

@@ -23,8 +23,6 @@
 #![tactic(auto)]
 
 #[cfg(test)]
-mod write_options;
-#[cfg(test)]
 mod files;
 #[cfg(test)]
 mod laws;
@@ -42,5 +40,7 @@ mod statuses;
 mod weight;
 #[cfg(test)]
 mod words;
+#[cfg(test)]
+mod write_options;
 #[cfg(test)]
 mod written_file;

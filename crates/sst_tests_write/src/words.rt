@@ -26,7 +26,14 @@ static NO_COMMANDS: [&[&str]; 27] = [
     &["write", "block", NAME, "block=64", "block=4096"],
     &["write", "block", NAME, "block=64", ""],
     &["write", "block", NAME, "restart=2", "block=64", "restart=2"],
-    &["write", "block", NAME, "index-restart=1", "restart=1", "index-restart=16"],
+    &[
+        "write",
+        "block",
+        NAME,
+        "index-restart=1",
+        "restart=1",
+        "index-restart=16",
+    ],
     // In another place.
     &["write", "block=64", "block", NAME],
     &["write", "block", "", "block=64"],

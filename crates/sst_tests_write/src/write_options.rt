@@ -91,12 +91,7 @@ static VERSIONS_PARTS: [Part; 1] = [(
 )];
 
 /// The files that are written for the lines have these parts.
-fn assert_parts(
-    rt: &impl Abort,
-    alloc: Global,
-    lines: &[u8],
-    parts: &[Part],
-) -> Result<(), Fail> {
+fn assert_parts(rt: &impl Abort, alloc: Global, lines: &[u8], parts: &[Part]) -> Result<(), Fail> {
     for &(words, start, digits) in parts {
         let ran = run_on(alloc, words, lines, NONE_FAILS)?;
         let mut part = Vec::new(alloc);

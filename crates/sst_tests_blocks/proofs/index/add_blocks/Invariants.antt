@@ -1,4 +1,4 @@
-use Rattle.std.proofs.Common.{ℕ, [], take}
+use Rattle.std.proofs.Common.{[], take}
 use Rattle.sst_index.specs.Index.{Holds}
 use Rattle.sst_index.specs.IndexBytes.{IndexOptions}
 use Rattle.sst_tests_blocks.specs.LedBlocks.{ends_of}
