@@ -1,5 +1,5 @@
 -- What two cursors of a reader come to while the calls of a list are answered.
-use Rattle.std.proofs.Common.{◌≡◌, ◌⊎◌, ℕ, Bool, true, false, if◌then◌else◌, List, ◌++◌, Option, None, Some, Result, Ok, Err, OnOk, IsTrue, option_and_then, slice_get, inl, inr, refl, sym, ap, ◌∙◌, subst}
+use Rattle.std.proofs.Common.{◌≡◌, ◌⊎◌, ℕ, Bool, if◌then◌else◌, List, ◌++◌, Option, None, Some, Result, Ok, Err, OnOk, option_and_then, slice_get, inl, inr, refl, sym, ap, ◌∙◌, subst}
 use Rattle.std.specs.Option.{is_some}
 use Rattle.sst_num.specs.declared.stops.Stop.{Stop}
 use Rattle.sst_num.specs.declared.stops.Stop.TheVariants.{Device}
@@ -51,7 +51,7 @@ found-reply : (place : Option ℕ) → (if is_some place then reply.Shown else r
 found-reply None = refl
 found-reply (Some i) = refl
 
-landed-at : (place : Option ℕ) → (lands place).position ≡ place
+pub landed-at : (place : Option ℕ) → (lands place).position ≡ place
 landed-at None = refl
 landed-at (Some i) = refl
 

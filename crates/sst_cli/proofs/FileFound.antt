@@ -1,11 +1,10 @@
 -- What a file may be found as, and that a told folder leaves one answer.
-use Rattle.std.proofs.Common.{◌≡◌, ◌⊎◌, ℕ, List, All, Option, None, Some, Result, Ok, Err, IsTrue, length, inl, inr, refl, sym, ap, subst, ◌∙◌, arith}
+use Rattle.std.proofs.Common.{◌≡◌, ◌⊎◌, ℕ, List, Option, None, Some, Result, Ok, Err, IsTrue, length, inl, inr, refl, sym, ap, subst, ◌∙◌, arith}
 use Rattle.std.specs.FinMap.{get}
 use Rattle.std.proofs.lemmas.Bool.{false≢true, le-ltb}
 use Rattle.sst_device.specs.Folder.{Files, file_of, misses, ends_before}
 use Rattle.sst_bbt_spec.specs.BlockBased.{Opens}
-use Rattle.sst_bbt_spec.specs.Rows.{HasSeq}
-use Rattle.sst_bbt_spec.specs.Way.{IndexedBlock, joined}
+use Rattle.sst_bbt_spec.specs.Way.{IndexedBlock}
 use Rattle.sst_bbt_spec.proofs.Stands.{opens-seqs}
 use Rattle.sst_bbt_read.specs.Opening.{RowBlock, blocks_read}
 use Rattle.sst_num.specs.declared.stops.Stop.{Stop}

@@ -1,37 +1,37 @@
 -- A command that opens its file is carried out: the file opened, or the first thing that is wrong with it was found.
-use Rattle.std.proofs.Common.{◌≡◌, ◌⊎◌, ℕ, List, [], Some, Result, Ok, Err, IsTrue}
+use Rattle.std.proofs.Common.{◌≡◌, ◌⊎◌, ℕ, List, [], Some, Result, Ok, Err, All, IsTrue}
 use Rattle.sst_num.specs.declared.stops.Stop.{Stop}
 use Rattle.sst_num.specs.declared.stops.Stop.TheVariants.{Damage, Device, Memory}
 use Rattle.sst_device.specs.Folder.{file_of, misses}
-use Rattle.sst_bbt_spec.specs.Way.{IndexedBlock}
+use Rattle.sst_bbt_spec.specs.BlockBased.{Opens}
+use Rattle.sst_bbt_spec.specs.Rows.{HasSeq}
+use Rattle.sst_bbt_spec.specs.Way.{IndexedBlock, joined}
 use Rattle.sst_bbt_read.specs.Opening.{blocks_read}
-use Rattle.sst_bbt_read.specs.TableBlocks.{OpenTable, IsOpenTable, blocks_of, row_blocks_of}
 use Rattle.sst_bbt_read.specs.declared.bbt_fault.BbtFault.{BbtFault}
-use Rattle.sst_bbt_read.proofs.JoinedBlocks.{table-seqs}
 use Rattle.sst_cli.specs.Behaviour.{World, Outcome, Carries}
 use Rattle.sst_cli.specs.OpenFile.{Damaged, Opened, cut_by, on_file}
 use Rattle.sst_cli.specs.Printed.{IsPrinted}
 use Rattle.sst_cli.specs.declared.status.Status.{Status}
 use Rattle.sst_cli.proofs.Carried.{carries-printed}
 use Rattle.sst_cli.proofs.FileFound.{file_opens, file_damaged}
-use Rattle.sst_cli.proofs.OneReading.{with_ok, with_err}
+use Rattle.sst_cli.proofs.OneReading.{with_err}
 
 -- it opened, and what is answered of it was printed or cut short
-pub carries-opened : (name : List ℕ) (answer : List IndexedBlock → Outcome) (result : Result OpenTable (Stop BbtFault)) (table : OpenTable) (before after : World) (status : Status) (P : Type 0)
-    → result ≡ Ok table → IsOpenTable table
+pub carries-opened : {T : Type 0} (name : List ℕ) (answer : List IndexedBlock → Outcome) (result : Result T (Stop BbtFault)) (reader : T) (blocks : List IndexedBlock) (before after : World) (status : Status) (P : Type 0)
+    → result ≡ Ok reader → All HasSeq (joined blocks)
     → (IsTrue (misses before.told.held name 0) → (result ≡ Err Device) ⊎ (result ≡ Err Memory))
-    → ((file : List ℕ) → file_of before.told.held name ≡ Some file → blocks_read file ≡ Ok (row_blocks_of (blocks_of table)))
-    → after.told.held ≡ before.told.held → (result ≡ Err Device) ⊎ (after.folder ≡ before.folder)
+    → ((file : List ℕ) → file_of before.told.held name ≡ Some file → Opens file blocks)
+    → after.told.held ≡ before.told.held → after.folder ≡ before.folder
     → after.told.left ≡ before.told.left → after.intake ≡ before.intake
-    → IsPrinted status (answer (blocks_of table)) before.written after.written before.sink after.sink
+    → IsPrinted status (answer blocks) before.written after.written before.sink after.sink
     → Carries (on_file name answer) before after status P (Unit {0})
-carries-opened name answer result table before after status P is is_open absent told held quiet left intake printed =
-    carries-printed (on_file name answer) (Opened (blocks_of table)) before after status P (Unit {0})
-    (table-seqs table is_open, file_opens before.told.held name result table is is_open absent told)
-    (held, left) held (λ none. absurd none) (λ spared. tt) (with_ok result table Device _ is quiet) intake printed
+carries-opened name answer result reader blocks before after status P is seqs absent told held quiet left intake printed =
+    carries-printed (on_file name answer) (Opened blocks) before after status P (Unit {0})
+    (seqs, file_opens before.told.held name result reader blocks is absent told)
+    (held, left) held (λ none. absurd none) (λ spared. tt) quiet intake printed
 
 -- it didn't, and its fault was printed or cut short
-pub carries-damaged : (name : List ℕ) (answer : List IndexedBlock → Outcome) (result : Result OpenTable (Stop BbtFault)) (fault : BbtFault) (before after : World) (status : Status) (P : Type 0)
+pub carries-damaged : {T : Type 0} (name : List ℕ) (answer : List IndexedBlock → Outcome) (result : Result T (Stop BbtFault)) (fault : BbtFault) (before after : World) (status : Status) (P : Type 0)
     → result ≡ Err (Damage fault)
     → (IsTrue (misses before.told.held name 0) → (result ≡ Err Device) ⊎ (result ≡ Err Memory))
     → ((file : List ℕ) → file_of before.told.held name ≡ Some file → blocks_read file ≡ Err fault)

@@ -1,59 +1,31 @@
 -- A walk over the entries of a file: what a step shows, and what the line of an entry does to the text.
-use Rattle.std.proofs.Common.{◌≡◌, ◌⊎◌, ℕ, zero, suc, ◌+◌, ◌<◌, ◌≤◌, Bool, true, false, List, [], ◌∷◌, ◌++◌, length, drop, slice_get, Option, None, Some, option_and_then, refl, sym, ap, subst, ◌∙◌, inl, inr, arith}
-use Rattle.std.proofs.lemmas.Bool.{cases_lt}
+use Rattle.std.proofs.Common.{◌≡◌, ℕ, ◌+◌, Bool, true, false, List, [], ◌∷◌, ◌++◌, length, drop, slice_get, Option, None, Some, refl, sym, ap, ◌∙◌, inl, inr, arith}
+use Rattle.std.proofs.lemmas.Bool.{cases_lt, lt-ltb, le-ltb}
 use Rattle.std.proofs.lemmas.List.{drop_all}
 use Rattle.sst_key.specs.declared.entries.Entry.{Entry}
-use Rattle.sst_key.specs.ListMachine.{lands, place_in}
-use Rattle.sst_key.proofs.Landings.{in-place, in-no_place}
+use Rattle.sst_key.specs.ListMachine.{first_of, next_of}
 use Rattle.sst_text.specs.EntryText.{lines_text}
-use Rattle.sst_cli.specs.ScanCommand.{IsStep, ahead, scanned_after, walk_answer}
+use Rattle.std.specs.Option.{is_some}
+use Rattle.sst_block.proofs.NextRow.{drop-at}
+use Rattle.sst_bbt_spec.specs.Way.{IndexedBlock}
+use Rattle.sst_bbt_read.specs.Kept.{StandsOn}
+use Rattle.sst_bbt_read.specs.Positions.{is_placed}
+use Rattle.sst_bbt_read.specs.Seats.{OpenReader}
+use Rattle.sst_bbt_read.specs.declared.cursor.Cursor.{Cursor}
+use Rattle.sst_cli.specs.ScanCommand.{from_place, scanned_after}
 
--- the entry at a place is the first of those from there on
-drop-at : (entries : List Entry) (k : ℕ) → k < length entries → (e : Entry) × (slice_get entries k ≡ Some e) × (drop k entries ≡ e ∷ drop (suc k) entries)
-drop-at [] k within = absurd (omega arith)
-drop-at (x ∷ xs) zero within = (x, refl, refl)
-drop-at (x ∷ xs) (suc k) within =
-    let later = drop-at xs k (omega arith) in (later.0, later.1, later.2)
+-- a walk that begins has all entries before it
+pub from-first : (entries : List Entry) → from_place (first_of entries) entries ≡ entries
+from-first [] = refl
+from-first (e ∷ rest) = rw (lt-ltb 0 (length (e ∷ rest)) (omega arith)) refl
 
--- the same of a place and an entry that are equal to these
-step-as : (before entries : List Entry) (place other : Option ℕ) (shown some : Option Entry) → place ≡ other → shown ≡ some
-    → IsStep some before (ahead true other entries) → IsStep shown before (ahead true place entries)
-step-as before entries place other shown some at same is =
-    let there = subst (λ (p : Option ℕ). IsStep some before (ahead true p entries)) (sym at) is in
-    subst (λ (s : Option Entry). IsStep s before (ahead true place entries)) (sym same) there
-
--- what a move to a place shows is that
-step-to_by : (entries : List Entry) (k : ℕ) (place : Option ℕ) (shown : Option Entry) → (k < length entries) ⊎ (length entries ≤ k)
-    → place ≡ place_in entries k → shown ≡ option_and_then (λ i. slice_get entries i) place → IsStep shown (drop k entries) (ahead true place entries)
-step-to_by entries k place shown (inl within) at is =
-    let found = drop-at entries k within in
-    let here : place ≡ Some k = at ∙ in-place entries k within in
-    let some : shown ≡ Some found.0 = is ∙ ap (option_and_then (λ i. slice_get entries i)) here ∙ found.1 in
-    let next : k + 1 ≡ suc k = omega arith in
-    step-as (drop k entries) entries place (Some k) shown (Some found.0) here some
-    (subst (λ (n : ℕ). drop k entries ≡ found.0 ∷ drop n entries) (sym next) found.2)
-step-to_by entries k place shown (inr past) at is =
-    let nowhere : place ≡ None = at ∙ in-no_place entries k past in
-    let none : shown ≡ None = is ∙ ap (option_and_then (λ i. slice_get entries i)) nowhere in
-    step-as (drop k entries) entries place None shown None nowhere none (drop_all k entries past)
-
-step-to : (entries : List Entry) (k : ℕ) (place : Option ℕ) (shown : Option Entry)
-    → place ≡ place_in entries k → shown ≡ option_and_then (λ i. slice_get entries i) place → IsStep shown (drop k entries) (ahead true place entries)
-step-to entries k place shown at is = step-to_by entries k place shown (cases_lt k (length entries)) at is
-
-lands-at : (place : Option ℕ) → (lands place).position ≡ place
-lands-at None = refl
-lands-at (Some i) = refl
-
--- what a step of a walk shows
-pub step-shown : (begun : Bool) (position place : Option ℕ) (entries : List Entry) (shown : Option Entry)
-    → place ≡ (walk_answer begun entries position).position → shown ≡ option_and_then (λ i. slice_get entries i) place
-    → IsStep shown (ahead begun position entries) (ahead true place entries)
-step-shown false position place entries shown at is = step-to entries 0 place shown (at ∙ lands-at (place_in entries 0)) is
-step-shown true None place entries shown at is =
-    let none : shown ≡ None = is ∙ ap (option_and_then (λ i. slice_get entries i)) at in
-    step-as [] entries place None shown None at none refl
-step-shown true (Some i) place entries shown at is = step-to entries (i + 1) place shown (at ∙ lands-at (place_in entries (i + 1))) is
+-- behind the entry at a place come those from the next place on
+pub from-next : (entries : List Entry) (i : ℕ) → from_place (next_of entries i) entries ≡ drop (i + 1) entries
+from-next entries i =
+    elim (cases_lt (i + 1) (length entries)) [
+      | inl within ↦ rw (lt-ltb (i + 1) (length entries) within) refl
+      | inr past ↦ rw (le-ltb (i + 1) (length entries) past) (sym (drop_all (i + 1) entries past))
+    ]
 
 -- ---- the line of an entry
 
@@ -63,3 +35,35 @@ pub line-waits : (snapshot : Option ℕ) (last next : Option (List ℕ)) (e : En
     → text ++ lines_text (scanned_after snapshot last before) ≡ more ++ lines_text (scanned_after snapshot next after)
 line-waits snapshot last next e before after text more step adds =
     ap (λ (es : List Entry). text ++ lines_text (scanned_after snapshot last es)) step ∙ adds after
+
+-- the line of the entry where the walk stands
+pub shown-waits : (snapshot : Option ℕ) (last next : Option (List ℕ)) (entries : List Entry) (i : ℕ) (e : Entry) (text more : List ℕ) → slice_get entries i ≡ Some e
+    → ((rest : List Entry) → text ++ lines_text (scanned_after snapshot last (e ∷ rest)) ≡ more ++ lines_text (scanned_after snapshot next rest))
+    → text ++ lines_text (scanned_after snapshot last (from_place (Some i) entries)) ≡ more ++ lines_text (scanned_after snapshot next (from_place (next_of entries i) entries))
+shown-waits snapshot last next entries i e text more at adds =
+    line-waits snapshot last next e (drop i entries) (drop (i + 1) entries) text more (drop-at entries i e at) adds
+    ∙ ap (λ (es : List Entry). more ++ lines_text (scanned_after snapshot next es)) (sym (from-next entries i))
+
+-- nothing is left where the walk stands nowhere
+nothing-scanned : (snapshot : Option ℕ) (last : Option (List ℕ)) → lines_text (scanned_after snapshot last []) ≡ []
+nothing-scanned None last = refl
+nothing-scanned (Some seq) last = refl
+
+pub nothing-left : (snapshot : Option ℕ) (last : Option (List ℕ)) (entries : List Entry) (place : Option ℕ) (there : Bool) → there ≡ is_some place → there ≡ false
+    → lines_text (scanned_after snapshot last (from_place place entries)) ≡ []
+nothing-left snapshot last entries None there told is = nothing-scanned snapshot last
+nothing-left snapshot last entries (Some i) there told is = absurd cc
+
+-- the entry where a cursor stands
+pub record IsHere (r : OpenReader) (c : Cursor) (blocks : List IndexedBlock) (place : Option ℕ) : Type 0 where
+  pub i : ℕ
+  pub is : place ≡ Some i
+  pub stands : StandsOn r c blocks (Some i)
+
+pub here-at : (r : OpenReader) (c : Cursor) (blocks : List IndexedBlock) (place : Option ℕ) (there : Bool) → StandsOn r c blocks place → there ≡ is_some place → there ≡ true
+    → IsHere r c blocks place
+here-at r c blocks None there stands told is = absurd cc
+here-at r c blocks (Some i) there stands told is = record { i = i; is = refl; stands = stands }
+
+pub here-placed : (r : OpenReader) (c : Cursor) (blocks : List IndexedBlock) (place : Option ℕ) → IsHere r c blocks place → is_placed c ≡ true
+here-placed r c blocks place here = ap is_some here.stands.stands

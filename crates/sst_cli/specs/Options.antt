@@ -1,6 +1,6 @@
 -- The options of a `write block`: the words behind the name of its file, each `name=number`, in any order, none twice. The
 -- words and the limits are this project's own; what they choose is RocksDB's (include/rocksdb/table.h).
-use Rattle.std.specs.Prelude.{◌≡◌, ℕ, ◌≤◌, ◌&&◌, nat_le, if◌then◌else◌, List, [], ◌∷◌, length, take, drop, codes, Option, Some, None, option_and_then}
+use Rattle.std.specs.Prelude.{ℕ, ◌&&◌, nat_le, if◌then◌else◌, List, [], ◌∷◌, length, take, drop, codes, Option, Some, None, option_and_then}
 use Rattle.std.specs.Option.{option_map}
 use Rattle.std.specs.Str.{bytes_eq}
 use Rattle.sst_text.specs.Texts.{seq_field}

@@ -1,8 +1,7 @@
 -- What a `scan` comes to: it opens its file, and lists its entries, or those of them that a snapshot sees.
-use Rattle.std.specs.Prelude.{◌≡◌, ℕ, ◌+◌, nat_le, Bool, true, false, if◌then◌else◌, List, [], ◌∷◌, drop, Option, Some, None}
+use Rattle.std.specs.Prelude.{ℕ, nat_le, Bool, true, false, if◌then◌else◌, List, [], ◌∷◌, drop, Option, Some, None}
 use Rattle.sst_key.specs.declared.entries.Entry.{Entry}
-use Rattle.sst_key.specs.declared.calls.Answer.{Answer}
-use Rattle.sst_key.specs.ListMachine.{first_of, is_of_user, lands, steps_on, visible}
+use Rattle.sst_key.specs.ListMachine.{is_of_user, visible}
 use Rattle.sst_text.specs.EntryText.{lines_text}
 use Rattle.sst_bbt_spec.specs.Way.{IndexedBlock, joined}
 use Rattle.sst_cli.specs.Behaviour.{Behaviour}
@@ -61,24 +60,9 @@ scan_command line = prints_of_file line.name (scan_text line.snapshot)
 
 -- ---- the walk
 
--- what the calls of a walk answer: First as it begins, and then Next
--- RocksDB: include/rocksdb/iterator.h, SeekToFirst, Next
--- Pinned by: run.ends
-abbrev pub walk_answer : Bool → List Entry → Option ℕ → Answer
-walk_answer false entries position = lands (first_of entries)
-walk_answer true entries position = steps_on entries position
-
--- the entries that a walk still has ahead: all, before it begins, and then those after its position
+-- the entries that a walk still has to show: those from its place on
 -- For proofs alone.
 -- Pinned by: run.ends
-abbrev pub ahead : Bool → Option ℕ → List Entry → List Entry
-ahead false position entries = entries
-ahead true None entries = []
-ahead true (Some i) entries = drop (i + 1) entries
-
--- a step of a walk shows the first of the entries that were ahead
--- For proofs alone.
--- Pinned by: run.ends
-abbrev pub IsStep : Option Entry → List Entry → List Entry → Type 0
-IsStep None before after = before ≡ []
-IsStep (Some e) before after = before ≡ e ∷ after
+abbrev pub from_place : Option ℕ → List Entry → List Entry
+from_place None entries = []
+from_place (Some i) entries = drop i entries

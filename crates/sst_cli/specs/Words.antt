@@ -1,7 +1,7 @@
 -- The words of a command line. These words are this project's own. For now there are four commands,
 -- `write block OUT`, with options (Options), `calls FILE`, `get FILE USER SEQ`, and `scan FILE`, with or without a SEQ.
 -- Pinned by: words_that_are_no_command, good_options
-use Rattle.std.specs.Prelude.{ℕ, ◌&&◌, nat_le, if◌then◌else◌, List, [], ◌∷◌, length, take, drop, codes, Option, Some, None, option_and_then}
+use Rattle.std.specs.Prelude.{ℕ, ◌&&◌, if◌then◌else◌, List, [], ◌∷◌, codes, Option, Some, None, option_and_then}
 use Rattle.std.specs.Option.{option_map}
 use Rattle.std.specs.Str.{bytes_eq}
 use Rattle.sst_key.specs.declared.calls.Target.{Target}

@@ -1,7 +1,11 @@
 //! The command that shows one entry of a file: the newest of a user key that a snapshot sees.
-ghost use Rattle.std.specs.Prelude.{◌≡◌, ℕ, List, ◌++◌, Option, OnOk, IfOk};
+ghost use Rattle.std.specs.Prelude.{◌≡◌, ℕ, List, ◌++◌, Option, None, OnOk, IfOk};
 ghost use Rattle.sst_bbt_read.specs.Cursors.{lent};
-ghost use Rattle.sst_bbt_read.specs.TableBlocks.{blocks_of};
+ghost use Rattle.sst_bbt_read.specs.Kept.{Keeps, StandsOn};
+ghost use Rattle.sst_bbt_read.specs.Positions.{Belongs};
+ghost use Rattle.sst_bbt_read.specs.Seats.{SameSeats, open_of, seats_of};
+ghost use Rattle.sst_bbt_spec.specs.Way.{IndexedBlock};
+ghost use Rattle.sst_cli.specs.Answering.{IsQuiet};
 ghost use Rattle.sst_cli.specs.Behaviour.{Carries, world};
 ghost use Rattle.sst_cli.specs.GetCommand.{found_text, get_command, way_got_text};
 ghost use Rattle.sst_cli.specs.OpenFile.{done_with};
@@ -9,10 +13,11 @@ ghost use Rattle.sst_cli.specs.Printed.{IsPrinted};
 
 use crate::command::GetLine;
 use crate::commands::calls::print_fault;
+use crate::output::answers::shown;
 use crate::output::entry_text::put_ended_line;
 use crate::output::printing::print;
 use crate::status::Status;
-use sst_bbt_read::BbtReader;
+use sst_bbt_read::{BbtReader, Cursor, CursorStop};
 use sst_device::{Folder, Sink};
 use sst_key::{EntryView, Target};
 use sst_num::{Memory, Stop};
@@ -30,8 +35,8 @@ pub fn get<F: Folder, O: Sink>(
         (world (F.held files.new) left (O.written out.new) (F.faults files.new) intake (O.faults out.new))
         result (files.new ≡ files.old) (Unit {0}) }
 {
-    match BbtReader::open(alloc, files, line.name) {
-        Ok(reader) => print_found(alloc, &reader, &line.target, out),
+    match BbtReader::open(alloc, files, line.name, 1, 0) {
+        Ok(reader) => print_found(alloc, reader, files, &line.target, out),
         Err(Stop::Damage(fault)) => print_fault(alloc, out, fault),
         Err(Stop::Device) => Status::Device,
         Err(Stop::Memory) => Status::Memory,
@@ -39,32 +44,75 @@ pub fn get<F: Folder, O: Sink>(
 }
 
 /// Prints what a Get on an open file shows.
-fn print_found<O: Sink>(alloc: Global, reader: &BbtReader, target: &Target, out: &mut O) -> Status
-    ensures { IsPrinted result (done_with (way_got_text target.now (blocks_of reader.now))) (O.written out.old) (O.written out.new)
-        (O.faults out.old) (O.faults out.new) }
+fn print_found<F: Folder, O: Sink>(
+    alloc: Global,
+    reader: BbtReader,
+    files: &mut F,
+    target: &Target,
+    out: &mut O,
+) -> Status
+    requires seats { (seats_of reader ≡ 1) × (open_of reader ≡ 0) }
+    requires kept { (blocks : List IndexedBlock) × Keeps reader blocks }
+    ensures printed { (blocks : List IndexedBlock) → Keeps reader blocks
+        → IsPrinted result (done_with (way_got_text target.now blocks)) (O.written out.old) (O.written out.new) (O.faults out.old) (O.faults out.new) }
+    ensures folder { IsQuiet (F.held files.old) (F.held files.new) (F.faults files.old) (F.faults files.new) }
 {
-    match found_text(alloc, reader, target) {
+    let mut table = reader;
+    let found = found_text(alloc, &mut table, files, target);
+    table.shut();
+    match found {
         Ok(text) => print(out, text.as_slice(), Status::Done),
         Err(Memory) => Status::Memory,
     }
 }
 
-/// The text of what a Get on an open file shows.
-fn found_text(alloc: Global, reader: &BbtReader, target: &Target) -> Result<Vec<u8>, Memory>
-    ensures { IfOk result (λ text. text.items ≡ way_got_text target.now (blocks_of reader.now)) }
+/// The text of what a Get on an open file shows, by a cursor of its own. The reader has one seat, which no cursor has.
+fn found_text<F: Folder>(
+    alloc: Global,
+    reader: &mut BbtReader,
+    files: &mut F,
+    target: &Target,
+) -> Result<Vec<u8>, Memory>
+    requires seats { (seats_of reader.old ≡ 1) × (open_of reader.old ≡ 0) }
+    requires kept { (blocks : List IndexedBlock) × Keeps reader.old blocks }
+    ensures shut { open_of reader.new ≡ 0 }
+    ensures folder { IsQuiet (F.held files.old) (F.held files.new) (F.faults files.old) (F.faults files.new) }
+    ensures text { (blocks : List IndexedBlock) → Keeps reader.old blocks → IfOk result (λ text. text.items ≡ way_got_text target.now blocks) }
 {
-    let mut text = Vec::new(alloc);
-    put_found(reader, target, &mut text)?;
-    Ok(text)
+    match reader.cursor() {
+        Ok(mut found) => {
+            let mut text = Vec::new(alloc);
+            let put = put_found(reader, files, &mut found, target, &mut text);
+            reader.close(found);
+            match put {
+                Ok(()) => Ok(text),
+                Err(Memory) => Err(Memory),
+            }
+        }
+        Err(CursorStop::Full) => unreachable!(),
+        Err(CursorStop::Memory) => Err(Memory),
+    }
 }
 
-/// Answers the Get with a cursor of its own, and appends what it shows. Where memory runs out, nothing is said of the text.
-fn put_found(reader: &BbtReader, target: &Target, text: &mut Vec<u8>) -> Result<(), Memory>
-    ensures { OnOk result (text.new.items ≡ text.old.items ++ way_got_text target.now (blocks_of reader.now)) }
+/// Answers the Get and appends what it shows. Where memory runs out, nothing is said of the text.
+fn put_found<F: Folder>(
+    reader: &mut BbtReader,
+    files: &mut F,
+    found: &mut Cursor,
+    target: &Target,
+    text: &mut Vec<u8>,
+) -> Result<(), Memory>
+    requires kept { (blocks : List IndexedBlock) × StandsOn reader.old found.old blocks None }
+    ensures belongs { Belongs reader.new found.new }
+    ensures seats { SameSeats reader.old reader.new }
+    ensures folder { IsQuiet (F.held files.old) (F.held files.new) (F.faults files.old) (F.faults files.new) }
+    ensures text { (blocks : List IndexedBlock) → StandsOn reader.old found.old blocks None
+        → OnOk result (text.new.items ≡ text.old.items ++ way_got_text target.now blocks) }
 {
-    let mut found = reader.cursor();
-    reader.get(&mut found, target.user.as_slice(), target.seq);
-    put_shown(text, reader.entry(&found))
+    match reader.get(files, found, target.user.as_slice(), target.seq) {
+        Ok(_) => put_shown(text, shown(reader, found)),
+        Err(_) => unreachable!(),
+    }
 }
 
 /// Appends the line of an entry that is shown, or `none`.

@@ -1,6 +1,9 @@
 //! The command that lists the entries of a file: all of them, or those that a snapshot sees.
 ghost use Rattle.std.specs.Prelude.{◌≡◌, ℕ, List, Option};
-ghost use Rattle.sst_bbt_read.specs.TableBlocks.{blocks_of};
+ghost use Rattle.sst_bbt_read.specs.Kept.{Keeps};
+ghost use Rattle.sst_bbt_read.specs.Seats.{open_of, seats_of};
+ghost use Rattle.sst_bbt_spec.specs.Way.{IndexedBlock};
+ghost use Rattle.sst_cli.specs.Answering.{IsQuiet};
 ghost use Rattle.sst_cli.specs.Behaviour.{Carries, world};
 ghost use Rattle.sst_cli.specs.OpenFile.{done_with};
 ghost use Rattle.sst_cli.specs.Printed.{IsPrinted};
@@ -28,8 +31,8 @@ pub fn scan<F: Folder, O: Sink>(
         (world (F.held files.new) left (O.written out.new) (F.faults files.new) intake (O.faults out.new))
         result (files.new ≡ files.old) (Unit {0}) }
 {
-    match BbtReader::open(alloc, files, line.name) {
-        Ok(reader) => print_all(alloc, &reader, line.snapshot, out),
+    match BbtReader::open(alloc, files, line.name, 1, 0) {
+        Ok(reader) => print_all(alloc, reader, files, line.snapshot, out),
         Err(Stop::Damage(fault)) => print_fault(alloc, out, fault),
         Err(Stop::Device) => Status::Device,
         Err(Stop::Memory) => Status::Memory,
@@ -37,16 +40,23 @@ pub fn scan<F: Folder, O: Sink>(
 }
 
 /// Prints the entries of an open file.
-fn print_all<O: Sink>(
+fn print_all<F: Folder, O: Sink>(
     alloc: Global,
-    reader: &BbtReader,
+    reader: BbtReader,
+    files: &mut F,
     snapshot: Option<u64>,
     out: &mut O,
 ) -> Status
-    ensures { IsPrinted result (done_with (scan_text snapshot (blocks_of reader.now))) (O.written out.old) (O.written out.new)
-        (O.faults out.old) (O.faults out.new) }
+    requires seats { (seats_of reader ≡ 1) × (open_of reader ≡ 0) }
+    requires kept { (blocks : List IndexedBlock) × Keeps reader blocks }
+    ensures printed { (blocks : List IndexedBlock) → Keeps reader blocks
+        → IsPrinted result (done_with (scan_text snapshot blocks)) (O.written out.old) (O.written out.new) (O.faults out.old) (O.faults out.new) }
+    ensures folder { IsQuiet (F.held files.old) (F.held files.new) (F.faults files.old) (F.faults files.new) }
 {
-    match print_entries(alloc, reader, snapshot, out) {
+    let mut table = reader;
+    let printed = print_entries(alloc, &mut table, files, snapshot, out);
+    table.shut();
+    match printed {
         Ok(()) => Status::Done,
         Err(stop) => status_of(stop),
     }

@@ -78,7 +78,7 @@ fn reply_of(found: Result<bool, Stop<BbtFault>>) -> Result<Reply, Stop<BbtFault>
 }
 
 /// The entry on which a cursor stands, if it stands on one.
-fn shown<'a>(reader: &'a BbtReader, cursor: &'a Cursor) -> Option<EntryView<'a>>
+pub fn shown<'a>(reader: &'a BbtReader, cursor: &'a Cursor) -> Option<EntryView<'a>>
     requires { Belongs reader.now cursor.now }
     ensures { (blocks : List IndexedBlock) (place : Option ℕ) → StandsOn reader.now cursor.now blocks place
         → lent result ≡ option_and_then (λ i. slice_get (joined blocks) i) place }

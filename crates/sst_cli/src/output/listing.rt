@@ -1,20 +1,24 @@
 //! The entries of a file, line by line: a walk from the front that prints all of them, or those that a snapshot sees.
-ghost use Rattle.std.specs.Prelude.{◌≡◌, ℕ, List, ◌∷◌, ◌++◌, take, true, Option, Some, None, Err, OnOk, OnErr};
+ghost use Rattle.std.specs.Prelude.{◌≡◌, ℕ, ◌<◌, List, ◌∷◌, ◌++◌, take, Option, Some, None, Err, OnOk, OnErr};
 ghost use Rattle.std.specs.Io.KnownBytes.{append_known};
+ghost use Rattle.std.specs.Option.{is_some};
 ghost use Rattle.sst_key.specs.Entry.{entry_of};
+ghost use Rattle.sst_key.specs.ListMachine.{first_of, next_of};
 ghost use Rattle.sst_key.specs.declared.entries.Entry.{Entry};
 ghost use Rattle.sst_device.specs.Outside.{CountsFaults};
 ghost use Rattle.sst_text.specs.EntryText.{lines_text};
-ghost use Rattle.sst_bbt_read.specs.Cursors.{Belongs, Comes, lent};
-ghost use Rattle.sst_bbt_read.specs.TableBlocks.{blocks_of};
-ghost use Rattle.sst_bbt_spec.specs.Way.{joined};
-ghost use Rattle.sst_cli.specs.ScanCommand.{IsStep, ahead, is_of_last, is_passed, scan_text, scanned_after, walk_answer};
+ghost use Rattle.sst_bbt_read.specs.Kept.{Keeps, StandsOn};
+ghost use Rattle.sst_bbt_read.specs.Positions.{Belongs, rest};
+ghost use Rattle.sst_bbt_read.specs.Seats.{SameSeats, open_of, seats_of};
+ghost use Rattle.sst_bbt_spec.specs.Way.{IndexedBlock, joined};
+ghost use Rattle.sst_cli.specs.Answering.{IsQuiet};
+ghost use Rattle.sst_cli.specs.ScanCommand.{is_of_last, is_passed, scan_text, scanned_after};
 
 use crate::output::answers::{PIECE, print_waiting};
 use crate::output::entry_text::put_ended_line;
-use sst_bbt_read::{BbtReader, Cursor};
-use sst_device::{DevStop, Sink};
-use sst_key::{EntryView, Reply};
+use sst_bbt_read::{BbtReader, Cursor, CursorStop};
+use sst_device::{DevStop, Folder, Sink};
+use sst_key::EntryView;
 use sst_num::Memory;
 use std::alloc::Global;
 use std::marker::Model;
@@ -68,27 +72,33 @@ impl LastUser {
     }
 }
 
-/// Goes to the first entry, and from there on to the next.
-fn go_on(reader: &BbtReader, position: &mut Cursor, begun: bool) -> Reply
-    requires { Belongs reader.now.entries position.old }
-    ensures exact { Comes result position.new (walk_answer begun reader.now.entries position.old) }
-    ensures belongs { Belongs reader.now.entries position.new }
+/// Goes to the first entry, and answers whether there is one.
+fn begin<F: Folder>(reader: &mut BbtReader, files: &mut F, position: &mut Cursor) -> bool
+    requires { (blocks : List IndexedBlock) × (place : Option ℕ) × StandsOn reader.old position.old blocks place }
+    ensures stands { (blocks : List IndexedBlock) (place : Option ℕ) → StandsOn reader.old position.old blocks place
+        → StandsOn reader.new position.new blocks (first_of (joined blocks)) × (result ≡ is_some (first_of (joined blocks))) }
+    ensures seats { SameSeats reader.old reader.new }
+    ensures folder { IsQuiet (F.held files.old) (F.held files.new) (F.faults files.old) (F.faults files.new) }
 {
-    if begun {
-        reader.next(position)
-    } else {
-        reader.first(position)
+    match reader.first(files, position) {
+        Ok(_) => reader.stands(position),
+        Err(_) => unreachable!(),
     }
 }
 
-/// A step of a walk from the front: lends the next entry, if there is one.
-fn step<'r>(reader: &'r BbtReader, position: &mut Cursor, begun: bool) -> Option<EntryView<'r>>
-    requires { Belongs reader.now.entries position.old }
-    ensures step { IsStep (lent result) (ahead begun position.old (joined (blocks_of reader.now))) (ahead true position.new (joined (blocks_of reader.now))) }
-    ensures belongs { Belongs reader.now.entries position.new }
+/// Goes from an entry to the next, and answers whether there is one.
+fn go_on<F: Folder>(reader: &mut BbtReader, files: &mut F, position: &mut Cursor) -> bool
+    requires { (blocks : List IndexedBlock) × (i : ℕ) × StandsOn reader.old position.old blocks (Some i) }
+    ensures stands { (blocks : List IndexedBlock) (i : ℕ) → StandsOn reader.old position.old blocks (Some i)
+        → StandsOn reader.new position.new blocks (next_of (joined blocks) i) × (result ≡ is_some (next_of (joined blocks) i)) }
+    ensures lowers { rest reader.new position.new < rest reader.old position.old }
+    ensures seats { SameSeats reader.old reader.new }
+    ensures folder { IsQuiet (F.held files.old) (F.held files.new) (F.faults files.old) (F.faults files.new) }
 {
-    go_on(reader, position, begun);
-    reader.entry(position)
+    match reader.next(files, position) {
+        Ok(_) => reader.stands(position),
+        Err(_) => unreachable!(),
+    }
 }
 
 /// Whether the walk passes an entry over at the snapshot.
@@ -123,27 +133,62 @@ fn put_chosen(
 /// Prints the line of each entry, or of those that the snapshot sees, in order. After an error a prefix of the text stands in
 /// the sink.
 ///
-/// It goes from the first entry to the last and never back. The lines are put in pieces of some tens of kilobytes, and no
-/// more than one is kept beside the longest line and a user key.
-pub fn print_entries<O: Sink>(
+/// The reader has one seat, which no cursor has. The walk goes from the first entry to the last and never back. The lines are
+/// put in pieces of some tens of kilobytes, and no more than one is kept beside the longest line and a user key.
+pub fn print_entries<F: Folder, O: Sink>(
     alloc: Global,
-    reader: &BbtReader,
+    reader: &mut BbtReader,
+    files: &mut F,
     snapshot: Option<u64>,
     out: &mut O,
 ) -> Result<(), DevStop>
-    ensures all { OnOk result (O.written out.new ≡ append_known (O.written out.old) (scan_text snapshot (blocks_of reader.now))) }
-    ensures err { OnErr result ((n : ℕ)
-        × (O.written out.new ≡ append_known (O.written out.old) (take n (scan_text snapshot (blocks_of reader.now))))) }
+    requires seats { (seats_of reader.old ≡ 1) × (open_of reader.old ≡ 0) }
+    requires kept { (blocks : List IndexedBlock) × Keeps reader.old blocks }
+    ensures shut { open_of reader.new ≡ 0 }
+    ensures folder { IsQuiet (F.held files.old) (F.held files.new) (F.faults files.old) (F.faults files.new) }
+    ensures all { (blocks : List IndexedBlock) → Keeps reader.old blocks
+        → OnOk result (O.written out.new ≡ append_known (O.written out.old) (scan_text snapshot blocks)) }
+    ensures err { (blocks : List IndexedBlock) → Keeps reader.old blocks
+        → OnErr result ((n : ℕ) × (O.written out.new ≡ append_known (O.written out.old) (take n (scan_text snapshot blocks)))) }
     ensures faults { CountsFaults (result ≡ Err DevStop.Failed) (O.faults out.old) (O.faults out.new) }
 {
-    let mut position = reader.cursor();
-    let mut begun = false;
+    match reader.cursor() {
+        Ok(mut position) => {
+            let printed = print_walk(alloc, reader, files, &mut position, snapshot, out);
+            reader.close(position);
+            printed
+        }
+        Err(CursorStop::Full) => unreachable!(),
+        Err(CursorStop::Memory) => Err(DevStop::Memory),
+    }
+}
+
+/// Prints the lines by a cursor.
+fn print_walk<F: Folder, O: Sink>(
+    alloc: Global,
+    reader: &mut BbtReader,
+    files: &mut F,
+    position: &mut Cursor,
+    snapshot: Option<u64>,
+    out: &mut O,
+) -> Result<(), DevStop>
+    requires kept { (blocks : List IndexedBlock) × StandsOn reader.old position.old blocks None }
+    ensures belongs { Belongs reader.new position.new }
+    ensures seats { SameSeats reader.old reader.new }
+    ensures folder { IsQuiet (F.held files.old) (F.held files.new) (F.faults files.old) (F.faults files.new) }
+    ensures all { (blocks : List IndexedBlock) → StandsOn reader.old position.old blocks None
+        → OnOk result (O.written out.new ≡ append_known (O.written out.old) (scan_text snapshot blocks)) }
+    ensures err { (blocks : List IndexedBlock) → StandsOn reader.old position.old blocks None
+        → OnErr result ((n : ℕ) × (O.written out.new ≡ append_known (O.written out.old) (take n (scan_text snapshot blocks)))) }
+    ensures faults { CountsFaults (result ≡ Err DevStop.Failed) (O.faults out.old) (O.faults out.new) }
+{
     let mut last = LastUser::new(alloc);
     let mut text = Vec::new(alloc);
-    while let Some(entry) = step(reader, &mut position, begun) {
-        begun = true;
-        put_chosen(snapshot, &mut last, entry, &mut text)?;
+    let mut there = begin(reader, files, position);
+    while there {
+        put_chosen(snapshot, &mut last, reader.entry(position), &mut text)?;
         print_waiting(out, &mut text, PIECE)?;
+        there = go_on(reader, files, position);
     }
     print_waiting(out, &mut text, 0)
 }

@@ -1,4 +1,4 @@
-use Rattle.std.proofs.Common.{Err, inl, inr, ap, sym, ◌∙◌}
+use Rattle.std.proofs.Common.{Err, inl, inr, ap, ◌∙◌}
 use Rattle.sst_cli.proofs.commands.calls.print_all.Goals as goal
 
 pub returns-in-Err-clause-printed : goal.returns-in-Err-clause-printed

@@ -1,4 +1,6 @@
-use Rattle.std.proofs.Common.{refl, sym}
+use Rattle.std.proofs.Common.{refl, ◌∙◌}
+use Rattle.sst_num.specs.declared.stops.Stop.TheVariants as stop
+use Rattle.sst_cli.proofs.OneReading.{with_ok}
 use Rattle.sst_cli.specs.GetCommand.{way_got_text}
 use Rattle.sst_cli.specs.OpenFile.{done_with}
 use Rattle.sst_cli.proofs.FileOpened.{carries-opened, carries-damaged}
@@ -6,8 +8,11 @@ use Rattle.sst_cli.proofs.commands.get.get.Goals as goal
 
 pub returns-in-Ok : goal.returns-in-Ok
 returns-in-Ok g c = λ left intake.
-    carries-opened c.args.line.name.now (λ blocks. done_with (way_got_text c.args.line.target blocks)) c.open.result c.in-Ok.reader _ _ c.print_found.result _ c.in-Ok.is
-    (rw (sym c.reader.view_is) c.reader.invariant) c.open.ensures.absent c.in-Ok.ensures.told c.open.ensures.folder.same_files c.open.ensures.folder.hides_none refl refl c.print_found.ensures
+    let kept = c.in-Ok.ensures.kept in
+    let quiet = with_ok c.open.result c.in-Ok.reader stop.Device _ c.in-Ok.is c.open.ensures.folder.hides_none in
+    let after = c.print_found.ensures.folder in
+    carries-opened c.args.line.name.now (λ blocks. done_with (way_got_text c.args.line.target blocks)) c.open.result c.in-Ok.reader kept.0 _ _ c.print_found.result _ c.in-Ok.is
+    kept.1.1 c.open.ensures.absent kept.2 (after.0 ∙ c.open.ensures.folder.same_files) (after.1 ∙ quiet) refl refl (c.print_found.ensures.printed kept.0 kept.1)
 
 pub returns-in-Err-Damage : goal.returns-in-Err-Damage
 returns-in-Err-Damage g c = λ left intake.

@@ -1,8 +1,5 @@
-use Rattle.std.proofs.Common.{sym}
 use Rattle.sst_key.specs.ListMachine.{lands}
-use Rattle.sst_key.specs.declared.calls.Reply.{Reply}
 use Rattle.sst_bbt_spec.specs.Way.{way_answer, way_get}
-use Rattle.sst_bbt_read.specs.Kept.{Answers}
 use Rattle.sst_cli.proofs.AnsweredBy.{quiet-move, quiet-get, stands-after, get-answers, get-line, more-text, some-blocks, some-both, first-of, second-of, other-on}
 use Rattle.sst_cli.proofs.output.answers.put_answer.Goals as goal
 
