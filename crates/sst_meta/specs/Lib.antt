@@ -8,6 +8,7 @@ pub mod PropertyNames
 pub mod Blocks
 pub mod BlockFooter
 pub mod LoadReading
+pub mod IndexForms
 pub mod Meta
 pub mod MetaFaults
 pub mod MetaRows

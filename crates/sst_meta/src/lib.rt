@@ -100,6 +100,7 @@ mod builder;
 mod ending;
 mod footer;
 mod footer_laws;
+mod index_form;
 mod known_properties;
 mod laws;
 mod loading;
@@ -116,6 +117,7 @@ pub use builder::PropsBuilder;
 pub use ending::put_ending;
 pub use footer::{FOOTER_LENGTH, Footer, format_of, put_footer, read_footer};
 pub use footer_laws::a_footer_reads_back;
+pub use index_form::IndexForm;
 pub use laws::{a_name_has_one_value, properties_have_one_restart};
 pub use loading::{Loaded, load};
 pub use loading_laws::{
