@@ -1,10 +1,9 @@
 pub mod Cursors
 pub mod FaultText
 pub mod Kept
-pub mod Opening
+pub mod OpeningFaults
 pub mod OpeningSteps
 pub mod Positions
 pub mod Reader
 pub mod Seats
-pub mod Shows
 pub mod TableBlocks

@@ -7,7 +7,7 @@ pub mod Parts
 pub mod Mark
 pub mod PartWay
 pub mod PartRuns
-pub mod PartsOpen
+pub mod IndexLeads
 pub mod WorkedTrees
 pub mod FoundParts
 pub mod Landings
