@@ -5,7 +5,6 @@ use Rattle.sst_key.specs.declared.entries.Entry.{Entry}
 use Rattle.sst_block.specs.declared.row_form.RowForm.TheVariants.{Entries}
 use Rattle.sst_block.specs.IndexRows.{IndexPair, IndexRows}
 use Rattle.sst_block.proofs.OneReading.{one-pairs}
-use Rattle.sst_device.specs.Framed.{Framed}
 use Rattle.sst_meta.specs.BlockFooter.{footer_start}
 use Rattle.sst_meta.specs.IndexForms.{index_form}
 use Rattle.sst_meta.specs.declared.index_form.IndexForm.{IndexForm}
