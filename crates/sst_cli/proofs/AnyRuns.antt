@@ -5,8 +5,8 @@ use Rattle.sst_key.specs.declared.calls.Call.{Call}
 use Rattle.sst_cli.specs.InputReading.{read_calls}
 use Rattle.sst_key.specs.declared.entries.Entry.{Entry}
 use Rattle.sst_device.specs.Folder.{file_of, misses}
-use Rattle.sst_bbt_spec.specs.Way.{IndexedBlock}
-use Rattle.sst_bbt_read.specs.Opening.{blocks_read}
+use Rattle.sst_bbt_spec.specs.Parts.{Part}
+use Rattle.sst_bbt_read.specs.OpeningFaults.{FailsToOpen}
 use Rattle.sst_bbt_read.specs.declared.bbt_fault.BbtFault.{BbtFault}
 use Rattle.sst_cli.specs.Behaviour.{Told, World, IsFault, Ends, CallsFor}
 use Rattle.sst_cli.specs.CallsCommand.{FoundCalls, Refused, Read, calls_outcome}
@@ -42,18 +42,18 @@ calls_status : (found : FoundCalls) (status : Status) → status ≡ (calls_outc
 calls_status (Refused refusal) status is = inr (inl is)
 calls_status (Read calls Absent) status is = inr (inr (inr is))
 calls_status (Read calls (Damaged fault)) status is = inr (inr (inl is))
-calls_status (Read calls (Opened blocks)) status is = inl is
+calls_status (Read calls (Opened parts)) status is = inl is
 
 neither_of : (status other : Status) → (status ≡ Done) ⊎ (status ≡ Input) → status ≡ other → (other ≡ Done → ⊥) → (other ≡ Input → ⊥) → ⊥
 neither_of status other (inl done) is not_done not_input = not_done cc
 neither_of status other (inr input) is not_done not_input = not_input cc
 
 -- of a command that opens its file and prints a text
-reading_status : (text : List IndexedBlock → List ℕ) (found : OpenFile) (status : Status) → status ≡ (file_outcome (λ blocks. done_with (text blocks)) found).status
+reading_status : (text : List Part → List ℕ) (found : OpenFile) (status : Status) → status ≡ (file_outcome (λ parts. done_with (text parts)) found).status
     → (status ≡ Done) ⊎ ((status ≡ Input) ⊎ ((status ≡ File) ⊎ (status ≡ Device)))
 reading_status text Absent status is = inr (inr (inr is))
 reading_status text (Damaged fault) status is = inr (inr (inl is))
-reading_status text (Opened blocks) status is = inl is
+reading_status text (Opened parts) status is = inl is
 
 none_of : (status other : Status) → (status ≡ Done) ⊎ ((status ≡ Input) ⊎ ((status ≡ File) ⊎ (status ≡ Device))) → status ≡ other
     → (other ≡ Done → ⊥) → (other ≡ Input → ⊥) → (other ≡ File → ⊥) → (other ≡ Device → ⊥) → ⊥
@@ -96,7 +96,7 @@ never command before after status ends is =
 -- with File the fault of the file that the command reads is read
 pub file_only : (command : Option Command) (before after : World) (status : Status) → Ends (behaviour command) before after status
     → status ≡ File → (name : List ℕ) × (option_and_then file_read command ≡ Some name)
-    × ((file : List ℕ) → file_of before.told.held name ≡ Some file → (fault : BbtFault) × (blocks_read file ≡ Err fault))
+    × ((file : List ℕ) → file_of before.told.held name ≡ Some file → (fault : BbtFault) × (FailsToOpen file fault))
 file_only None before after status ends is =
     let found = whole_unless no_command before after status ends (not_file status is) in
     let same = found.2.ends in absurd (cc (same, is))

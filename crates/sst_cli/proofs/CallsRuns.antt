@@ -6,10 +6,10 @@ use Rattle.sst_key.specs.declared.entries.Entry.{Entry}
 use Rattle.sst_device.specs.Folder.{file_of, misses}
 use Rattle.sst_text.specs.Taken.{IsTakenTo}
 use Rattle.sst_bbt_spec.specs.BlockBased.{BlockBased, Opens}
-use Rattle.sst_bbt_spec.specs.Way.{IndexedBlock}
-use Rattle.sst_bbt_read.specs.Opening.{blocks_read}
+use Rattle.sst_bbt_spec.specs.Parts.{Part}
+use Rattle.sst_bbt_read.specs.OpeningFaults.{FailsToOpen}
 use Rattle.sst_bbt_read.specs.declared.bbt_fault.BbtFault.{BbtFault}
-use Rattle.sst_bbt_read.proofs.FaultsShown.{blocks_read-fault}
+use Rattle.sst_bbt_read.proofs.OpeningDecided.{opens-apart_fails, fails-shown}
 use Rattle.sst_cli.specs.Behaviour.{Told, World, IsFault, IsWhole, Ends}
 use Rattle.sst_cli.specs.CallsCommand.{Answered, AnsweredByWay, IsDamaged, FoundCalls, Refused, Read, AreFoundCalls, calls_command, calls_outcome}
 use Rattle.sst_cli.specs.OpenFile.{OpenFile, Absent, Damaged, Opened, IsOpenFile}
@@ -21,7 +21,8 @@ use Rattle.sst_cli.specs.declared.status.Status.{Status}
 use Rattle.sst_cli.specs.declared.status.Status.TheVariants.{Done, Input, File, Device}
 use Rattle.sst_cli.proofs.CallsCarried.{file_not_input}
 use Rattle.sst_cli.proofs.Carried.{append_known-nil}
-use Rattle.sst_cli.proofs.FileFound.{file_told, not_missed, there_not_missed, opens_once, opens_no_fault}
+use Rattle.sst_bbt_spec.proofs.PartsLead.{opens-one}
+use Rattle.sst_cli.proofs.FileFound.{file_told, not_missed, there_not_missed}
 use Rattle.sst_cli.proofs.ListAnswers.{stands-text}
 use Rattle.sst_cli.proofs.OneReading.{same_ok, same_err, not_both}
 use Rattle.sst_cli.proofs.RunEnds.{whole_or_fault, whole_unless, not_done, not_input, not_file}
@@ -46,30 +47,30 @@ read_or_fault name before after status text calls ends told reads =
 
 -- ---- a file that opens
 
-whole_answered : (name : List ℕ) (before after : World) (status : Status) (file text : List ℕ) (blocks : List IndexedBlock) (calls : List Call) (found : OpenFile)
+whole_answered : (name : List ℕ) (before after : World) (status : Status) (file text : List ℕ) (parts : List Part) (calls : List Call) (found : OpenFile)
     → IsOpenFile before.told.held name found → IsWhole (calls_command name) (Read calls found) before after status
-    → Opens file blocks → file_of before.told.held name ≡ Some file → before.told.left ≡ Some text
-    → AnsweredByWay status blocks calls before.told.held after.told.held after.told.left before.written after.written
-whole_answered name before after status file text blocks calls Absent is whole opens there told = absurd (not_missed before.told.held name file is there)
-whole_answered name before after status file text blocks calls (Damaged fault) is whole opens there told =
-    absurd (opens_no_fault file blocks fault opens (file_told before.told.held name file (λ f. blocks_read f ≡ Err fault) is there))
-whole_answered name before after status file text blocks calls (Opened some) is whole opens there told =
-    let same = opens_once file some blocks (file_told before.told.held name file (λ f. Opens f some) is.1 there) opens in
+    → Opens file parts → file_of before.told.held name ≡ Some file → before.told.left ≡ Some text
+    → AnsweredByWay status parts calls before.told.held after.told.held after.told.left before.written after.written
+whole_answered name before after status file text parts calls Absent is whole opens there told = absurd (not_missed before.told.held name file is there)
+whole_answered name before after status file text parts calls (Damaged fault) is whole opens there told =
+    absurd (opens-apart_fails file parts fault opens (file_told before.told.held name file (λ f. FailsToOpen f fault) is there))
+whole_answered name before after status file text parts calls (Opened some) is whole opens there told =
+    let same = opens-one file some parts (file_told before.told.held name file (λ f. Opens f some) is.1 there) opens in
     record {
       done = whole.ends;
       kept = whole.leaves.0;
       read = whole.leaves.1 text told;
-      printed = whole.printed ∙ ap (λ (bs : List IndexedBlock). append_known before.written (way_text bs calls)) same;
+      printed = whole.printed ∙ ap (λ (bs : List Part). append_known before.written (way_text bs calls)) same;
     }
 
-pub answered : (name : List ℕ) (before after : World) (status : Status) (file text : List ℕ) (blocks : List IndexedBlock) (calls : List Call)
-    → Ends (calls_command name) before after status → Opens file blocks → file_of before.told.held name ≡ Some file
+pub answered : (name : List ℕ) (before after : World) (status : Status) (file text : List ℕ) (parts : List Part) (calls : List Call)
+    → Ends (calls_command name) before after status → Opens file parts → file_of before.told.held name ≡ Some file
     → before.told.left ≡ Some text → read_calls text ≡ Ok calls
-    → IsFault status ⊎ AnsweredByWay status blocks calls before.told.held after.told.held after.told.left before.written after.written
-answered name before after status file text blocks calls ends opens there told reads =
+    → IsFault status ⊎ AnsweredByWay status parts calls before.told.held after.told.held after.told.left before.written after.written
+answered name before after status file text parts calls ends opens there told reads =
     elim (read_or_fault name before after status text calls ends told reads) [
       | inl fault ↦ inl fault
-      | inr found ↦ inr (whole_answered name before after status file text blocks calls found.0 found.1 found.2 opens there told)
+      | inr found ↦ inr (whole_answered name before after status file text parts calls found.0 found.1 found.2 opens there told)
     ]
 
 pub answered_as_list : (name : List ℕ) (before after : World) (status : Status) (file text : List ℕ) (entries : List Entry) (calls : List Call)
@@ -77,7 +78,7 @@ pub answered_as_list : (name : List ℕ) (before after : World) (status : Status
     → before.told.left ≡ Some text → read_calls text ≡ Ok calls
     → IsFault status ⊎ Answered status entries calls before.told.held after.told.held after.told.left before.written after.written
 answered_as_list name before after status file text entries calls ends there stands told reads =
-    elim (answered name before after status file text stands.blocks calls ends stands.opens there told reads) [
+    elim (answered name before after status file text stands.parts calls ends stands.opens there told reads) [
       | inl fault ↦ inl fault
       | inr way ↦ inr (record {
         done = way.done;
@@ -91,25 +92,25 @@ answered_as_list name before after status file text entries calls ends there sta
 
 whole_damaged : (name : List ℕ) (before after : World) (status : Status) (file text : List ℕ) (calls : List Call) (found : OpenFile)
     → IsOpenFile before.told.held name found → IsWhole (calls_command name) (Read calls found) before after status
-    → file_of before.told.held name ≡ Some file → ((blocks : List IndexedBlock) → Opens file blocks → ⊥) → before.told.left ≡ Some text
+    → file_of before.told.held name ≡ Some file → ((parts : List Part) → Opens file parts → ⊥) → before.told.left ≡ Some text
     → IsDamaged status file after.told.left before.written after.written
 whole_damaged name before after status file text calls Absent is whole there closed told = absurd (not_missed before.told.held name file is there)
 whole_damaged name before after status file text calls (Damaged fault) is whole there closed told =
-    let first = file_told before.told.held name file (λ f. blocks_read f ≡ Err fault) is there in
+    let first = file_told before.told.held name file (λ f. FailsToOpen f fault) is there in
     record {
       ends = whole.ends;
       read = whole.leaves.1 text told;
       fault = fault;
       first = first;
-      shown = λ bytes. blocks_read-fault file fault bytes first;
+      shown = λ bytes. fails-shown file fault bytes first;
       printed = whole.printed;
     }
-whole_damaged name before after status file text calls (Opened blocks) is whole there closed told =
-    absurd (closed blocks (file_told before.told.held name file (λ f. Opens f blocks) is.1 there))
+whole_damaged name before after status file text calls (Opened parts) is whole there closed told =
+    absurd (closed parts (file_told before.told.held name file (λ f. Opens f parts) is.1 there))
 
 pub damaged : (name : List ℕ) (before after : World) (status : Status) (file text : List ℕ) (calls : List Call)
     → Ends (calls_command name) before after status → file_of before.told.held name ≡ Some file
-    → ((blocks : List IndexedBlock) → Opens file blocks → ⊥) → before.told.left ≡ Some text → read_calls text ≡ Ok calls
+    → ((parts : List Part) → Opens file parts → ⊥) → before.told.left ≡ Some text → read_calls text ≡ Ok calls
     → IsFault status ⊎ IsDamaged status file after.told.left before.written after.written
 damaged name before after status file text calls ends there closed told reads =
     elim (read_or_fault name before after status text calls ends told reads) [
@@ -147,8 +148,8 @@ near name before after status text refusal ends told reads input =
 
 missed_only : (name : List ℕ) (before : World) (found : OpenFile) → IsTrue (misses before.told.held name 0) → IsOpenFile before.told.held name found → found ≡ Absent
 missed_only name before Absent missed is = refl
-missed_only name before (Damaged fault) missed is = absurd (there_not_missed before.told.held name (λ f. blocks_read f ≡ Err fault) missed is)
-missed_only name before (Opened blocks) missed is = absurd (there_not_missed before.told.held name (λ f. Opens f blocks) missed is.1)
+missed_only name before (Damaged fault) missed is = absurd (there_not_missed before.told.held name (λ f. FailsToOpen f fault) missed is)
+missed_only name before (Opened parts) missed is = absurd (there_not_missed before.told.held name (λ f. Opens f parts) missed is.1)
 
 whole_absent : (name : List ℕ) (before after : World) (status : Status) (found : FoundCalls)
     → AreFoundCalls name before.told found → IsWhole (calls_command name) found before after status → IsTrue (misses before.told.held name 0)
@@ -196,17 +197,17 @@ prints_nothing name before after status text calls (inr (found, is, inr cut)) mi
 -- a run that ends with Done found calls and a file that opens
 done_opened : (name : List ℕ) (before after : World) (status : Status) (found : FoundCalls)
     → AreFoundCalls name before.told found → IsWhole (calls_command name) found before after status → status ≡ Done
-    → (calls : List Call) × (blocks : List IndexedBlock) × AreFoundCalls name before.told (Read calls (Opened blocks))
-    × IsWhole (calls_command name) (Read calls (Opened blocks)) before after status
+    → (calls : List Call) × (parts : List Part) × AreFoundCalls name before.told (Read calls (Opened parts))
+    × IsWhole (calls_command name) (Read calls (Opened parts)) before after status
 done_opened name before after status (Refused refusal) is whole done = let ends = whole.ends in absurd (cc (ends, done))
 done_opened name before after status (Read calls Absent) is whole done = let ends = whole.ends in absurd (cc (ends, done))
 done_opened name before after status (Read calls (Damaged fault)) is whole done = let ends = whole.ends in absurd (cc (ends, done))
-done_opened name before after status (Read calls (Opened blocks)) is whole done = (calls, blocks, is, whole)
+done_opened name before after status (Read calls (Opened parts)) is whole done = (calls, parts, is, whole)
 
 pub done : (name : List ℕ) (before after : World) (status : Status) (file text : List ℕ)
     → Ends (calls_command name) before after status → status ≡ Done → file_of before.told.held name ≡ Some file → before.told.left ≡ Some text
-    → (blocks : List IndexedBlock) × (calls : List Call) × Opens file blocks × (read_calls text ≡ Ok calls)
-    × AnsweredByWay status blocks calls before.told.held after.told.held after.told.left before.written after.written
+    → (parts : List Part) × (calls : List Call) × Opens file parts × (read_calls text ≡ Ok calls)
+    × AnsweredByWay status parts calls before.told.held after.told.held after.told.left before.written after.written
 done name before after status file text ends is there told =
     let found = whole_unless (calls_command name) before after status ends (not_done status is) in
     let opened = done_opened name before after status found.0 found.1 found.2 is in
@@ -225,7 +226,7 @@ done name before after status file text ends is there told =
 
 pub done_only : (name : List ℕ) (before after : World) (status : Status) (file : List ℕ)
     → Ends (calls_command name) before after status → status ≡ Done → file_of before.told.held name ≡ Some file
-    → (blocks : List IndexedBlock) × Opens file blocks
+    → (parts : List Part) × Opens file parts
 done_only name before after status file ends is there =
     let found = whole_unless (calls_command name) before after status ends (not_done status is) in
     let opened = done_opened name before after status found.0 found.1 found.2 is in
@@ -270,19 +271,19 @@ input_only name before after status text ends is told =
 -- with File the fault of a file that is told is read
 pub whole_file : (name : List ℕ) (before after : World) (status : Status) (found : FoundCalls)
     → AreFoundCalls name before.told found → IsWhole (calls_command name) found before after status → status ≡ File
-    → (file : List ℕ) → file_of before.told.held name ≡ Some file → (fault : BbtFault) × (blocks_read file ≡ Err fault)
+    → (file : List ℕ) → file_of before.told.held name ≡ Some file → (fault : BbtFault) × (FailsToOpen file fault)
 whole_file name before after status (Refused refusal) is whole ends = let same = whole.ends in absurd (cc (same, ends))
 whole_file name before after status (Read calls Absent) is whole ends = let same = whole.ends in absurd (cc (same, ends))
 whole_file name before after status (Read calls (Damaged fault)) is whole ends =
-    λ file there. (fault, file_told before.told.held name file (λ f. blocks_read f ≡ Err fault) is.1 there)
-whole_file name before after status (Read calls (Opened blocks)) is whole ends = let same = whole.ends in absurd (cc (same, ends))
+    λ file there. (fault, file_told before.told.held name file (λ f. FailsToOpen f fault) is.1 there)
+whole_file name before after status (Read calls (Opened parts)) is whole ends = let same = whole.ends in absurd (cc (same, ends))
 
 pub whole_status : (name : List ℕ) (before after : World) (status : Status) (found : FoundCalls)
     → IsWhole (calls_command name) found before after status → (status ≡ Done) ⊎ ((status ≡ Input) ⊎ ((status ≡ File) ⊎ IsFault status))
 whole_status name before after status (Refused refusal) whole = inr (inl whole.ends)
 whole_status name before after status (Read calls Absent) whole = inr (inr (inr (inl whole.ends)))
 whole_status name before after status (Read calls (Damaged fault)) whole = inr (inr (inl whole.ends))
-whole_status name before after status (Read calls (Opened blocks)) whole = inl whole.ends
+whole_status name before after status (Read calls (Opened parts)) whole = inl whole.ends
 
 pub statuses : (name : List ℕ) (before after : World) (status : Status) → Ends (calls_command name) before after status
     → (status ≡ Done) ⊎ ((status ≡ Input) ⊎ ((status ≡ File) ⊎ IsFault status))
@@ -298,4 +299,4 @@ pub device_found : (name : List ℕ) (told : Told) (found : FoundCalls) → AreF
 device_found name told (Refused refusal) is status ends device = absurd (cc (ends, device))
 device_found name told (Read calls Absent) is status ends device = (is.1, λ text left. (calls, is.0 text left))
 device_found name told (Read calls (Damaged fault)) is status ends device = absurd (cc (ends, device))
-device_found name told (Read calls (Opened blocks)) is status ends device = absurd (cc (ends, device))
+device_found name told (Read calls (Opened parts)) is status ends device = absurd (cc (ends, device))

@@ -4,15 +4,14 @@ use Rattle.std.specs.FinMap.{get}
 use Rattle.std.proofs.lemmas.Bool.{false≢true, le-ltb}
 use Rattle.sst_device.specs.Folder.{Files, file_of, misses, ends_before}
 use Rattle.sst_bbt_spec.specs.BlockBased.{Opens}
-use Rattle.sst_bbt_spec.specs.Way.{IndexedBlock}
+use Rattle.sst_bbt_spec.specs.Parts.{Part}
+use Rattle.sst_bbt_spec.proofs.PartsLead.{opens-one}
 use Rattle.sst_bbt_spec.proofs.Stands.{opens-seqs}
-use Rattle.sst_bbt_read.specs.Opening.{RowBlock, blocks_read}
+use Rattle.sst_bbt_read.specs.OpeningFaults.{FailsToOpen}
 use Rattle.sst_num.specs.declared.stops.Stop.{Stop}
 use Rattle.sst_num.specs.declared.stops.Stop.TheVariants.{Damage, Device, Memory}
-use Rattle.sst_bbt_read.specs.TableBlocks.{row_blocks_of}
 use Rattle.sst_bbt_read.specs.declared.bbt_fault.BbtFault.{BbtFault}
-use Rattle.sst_bbt_read.proofs.BlocksOnce.{row_blocks-one}
-use Rattle.sst_bbt_read.proofs.BlocksOpened.{blocks_read-opens, blocks_read-found}
+use Rattle.sst_bbt_read.proofs.OpeningDecided.{opens-apart_fails, fails-one, opens-or_fails}
 use Rattle.sst_cli.specs.Behaviour.{Outcome, FileIs}
 use Rattle.sst_cli.specs.OpenFile.{OpenFile, Absent, Damaged, Opened, IsOpenFile, file_outcome}
 use Rattle.sst_cli.proofs.OneReading.{same_some, same_ok, same_err, not_both}
@@ -50,12 +49,12 @@ not_missed (Some files) name file missed told = missed_is_not_told (get files na
 -- ---- what opening answered
 
 -- the blocks of a file that was opened
-pub file_opens : {T : Type 0} (held : Option Files) (name : List ℕ) (result : Result T (Stop BbtFault)) (reader : T) (blocks : List IndexedBlock) → result ≡ Ok reader
+pub file_opens : {T : Type 0} (held : Option Files) (name : List ℕ) (result : Result T (Stop BbtFault)) (reader : T) (parts : List Part) → result ≡ Ok reader
     → (IsTrue (misses held name 0) → (result ≡ Err Device) ⊎ (result ≡ Err Memory))
-    → ((file : List ℕ) → file_of held name ≡ Some file → Opens file blocks)
-    → FileIs held name (λ file. Opens file blocks)
-file_opens held name result reader blocks is absent told =
-    file_is held name (λ file. Opens file blocks)
+    → ((file : List ℕ) → file_of held name ≡ Some file → Opens file parts)
+    → FileIs held name (λ file. Opens file parts)
+file_opens held name result reader parts is absent told =
+    file_is held name (λ file. Opens file parts)
     (λ missed. elim (absent missed) [ inl device ↦ not_both result reader Device is device | inr memory ↦ not_both result reader Memory is memory ])
     told
 
@@ -66,21 +65,10 @@ damage_apart result fault is (inr memory) = let both = same_err result (Damage f
 -- the fault of one that wasn't
 pub file_damaged : {T : Type 0} (held : Option Files) (name : List ℕ) (result : Result T (Stop BbtFault)) (fault : BbtFault) → result ≡ Err (Damage fault)
     → (IsTrue (misses held name 0) → (result ≡ Err Device) ⊎ (result ≡ Err Memory))
-    → ((file : List ℕ) → file_of held name ≡ Some file → blocks_read file ≡ Err fault)
-    → FileIs held name (λ file. blocks_read file ≡ Err fault)
+    → ((file : List ℕ) → file_of held name ≡ Some file → FailsToOpen file fault)
+    → FileIs held name (λ file. FailsToOpen file fault)
 file_damaged held name result fault is absent told =
-    file_is held name (λ file. blocks_read file ≡ Err fault) (λ missed. damage_apart result fault is (absent missed)) told
-
--- a file opens to one row of blocks
-pub opens_once : (file : List ℕ) (some other : List IndexedBlock) → Opens file some → Opens file other → some ≡ other
-opens_once file some other a b =
-    row_blocks-one some other (opens-seqs file some a) (opens-seqs file other b)
-    (same_ok (blocks_read file) (row_blocks_of some) (row_blocks_of other) (blocks_read-opens file some a) (blocks_read-opens file other b))
-
--- a file that opens has no fault
-pub opens_no_fault : (file : List ℕ) (blocks : List IndexedBlock) (fault : BbtFault) → Opens file blocks → blocks_read file ≡ Err fault → ⊥
-opens_no_fault file blocks fault opens damaged =
-    not_both (blocks_read file) (row_blocks_of blocks) fault (blocks_read-opens file blocks opens) damaged
+    file_is held name (λ file. FailsToOpen file fault) (λ missed. damage_apart result fault is (absent missed)) told
 
 -- ---- a told folder leaves one answer
 
@@ -97,38 +85,38 @@ both_of_one files name P Q p q =
     let some = p files refl in
     (some.0, some.2, file_told (Some files) name some.0 Q q some.1)
 
-pub one_file_outcome : (answer : List IndexedBlock → Outcome) (files : Files) (name : List ℕ) (some other : OpenFile)
+pub one_file_outcome : (answer : List Part → Outcome) (files : Files) (name : List ℕ) (some other : OpenFile)
     → IsOpenFile (Some files) name some → IsOpenFile (Some files) name other → file_outcome answer some ≡ file_outcome answer other
 one_file_outcome answer files name Absent Absent a b = refl
-one_file_outcome answer files name Absent (Damaged fault) a b = absurd (there_not_missed (Some files) name (λ file. blocks_read file ≡ Err fault) a b)
-one_file_outcome answer files name Absent (Opened blocks) a b = absurd (there_not_missed (Some files) name (λ file. Opens file blocks) a b.1)
-one_file_outcome answer files name (Damaged fault) Absent a b = absurd (there_not_missed (Some files) name (λ file. blocks_read file ≡ Err fault) b a)
+one_file_outcome answer files name Absent (Damaged fault) a b = absurd (there_not_missed (Some files) name (λ file. FailsToOpen file fault) a b)
+one_file_outcome answer files name Absent (Opened parts) a b = absurd (there_not_missed (Some files) name (λ file. Opens file parts) a b.1)
+one_file_outcome answer files name (Damaged fault) Absent a b = absurd (there_not_missed (Some files) name (λ file. FailsToOpen file fault) b a)
 one_file_outcome answer files name (Damaged fault) (Damaged other) a b =
-    let one = both_of_one files name (λ file. blocks_read file ≡ Err fault) (λ file. blocks_read file ≡ Err other) a b in
-    ap (λ (f : BbtFault). file_outcome answer (Damaged f)) (same_err (blocks_read one.0) fault other one.1 one.2)
-one_file_outcome answer files name (Damaged fault) (Opened blocks) a b =
-    let one = both_of_one files name (λ file. blocks_read file ≡ Err fault) (λ file. Opens file blocks) a b.1 in
-    absurd (opens_no_fault one.0 blocks fault one.2 one.1)
-one_file_outcome answer files name (Opened blocks) Absent a b = absurd (there_not_missed (Some files) name (λ file. Opens file blocks) b a.1)
-one_file_outcome answer files name (Opened blocks) (Damaged fault) a b =
-    let one = both_of_one files name (λ file. Opens file blocks) (λ file. blocks_read file ≡ Err fault) a.1 b in
-    absurd (opens_no_fault one.0 blocks fault one.1 one.2)
-one_file_outcome answer files name (Opened blocks) (Opened others) a b =
-    let one = both_of_one files name (λ file. Opens file blocks) (λ file. Opens file others) a.1 b.1 in
-    ap answer (opens_once one.0 blocks others one.1 one.2)
+    let one = both_of_one files name (λ file. FailsToOpen file fault) (λ file. FailsToOpen file other) a b in
+    ap (λ (f : BbtFault). file_outcome answer (Damaged f)) (fails-one one.0 fault other one.1 one.2)
+one_file_outcome answer files name (Damaged fault) (Opened parts) a b =
+    let one = both_of_one files name (λ file. FailsToOpen file fault) (λ file. Opens file parts) a b.1 in
+    absurd (opens-apart_fails one.0 parts fault one.2 one.1)
+one_file_outcome answer files name (Opened parts) Absent a b = absurd (there_not_missed (Some files) name (λ file. Opens file parts) b a.1)
+one_file_outcome answer files name (Opened parts) (Damaged fault) a b =
+    let one = both_of_one files name (λ file. Opens file parts) (λ file. FailsToOpen file fault) a.1 b in
+    absurd (opens-apart_fails one.0 parts fault one.1 one.2)
+one_file_outcome answer files name (Opened parts) (Opened others) a b =
+    let one = both_of_one files name (λ file. Opens file parts) (λ file. Opens file others) a.1 b.1 in
+    ap answer (opens-one one.0 parts others one.1 one.2)
 
 -- and there is always one
-found_bytes : (files : Files) (name file : List ℕ) (read : Result (List RowBlock) BbtFault) → get files name ≡ Some file → blocks_read file ≡ read
+found_bytes : (files : Files) (name file : List ℕ) → get files name ≡ Some file
+    → ((parts : List Part) × Opens file parts) ⊎ ((fault : BbtFault) × FailsToOpen file fault)
     → (found : OpenFile) × IsOpenFile (Some files) name found
-found_bytes files name file (Ok rows) there reads =
-    let opens = blocks_read-found file rows reads in
+found_bytes files name file there (inl opens) =
     (Opened opens.0, (opens-seqs file opens.0 opens.1, λ all is. (file, (let same : files ≡ all = cc in rw (← same) there), opens.1)))
-found_bytes files name file (Err fault) there reads =
-    (Damaged fault, λ all is. (file, (let same : files ≡ all = cc in rw (← same) there), reads))
+found_bytes files name file there (inr fails) =
+    (Damaged fails.0, λ all is. (file, (let same : files ≡ all = cc in rw (← same) there), fails.1))
 
 found_some : (files : Files) (name : List ℕ) (bytes : Option (List ℕ)) → get files name ≡ bytes → (found : OpenFile) × IsOpenFile (Some files) name found
 found_some files name None none = (Absent, ap (λ (o : Option (List ℕ)). ends_before o 0) none)
-found_some files name (Some file) there = found_bytes files name file (blocks_read file) there refl
+found_some files name (Some file) there = found_bytes files name file there (opens-or_fails file)
 
 pub found_file : (files : Files) (name : List ℕ) → (found : OpenFile) × IsOpenFile (Some files) name found
 found_file files name = found_some files name (get files name) refl

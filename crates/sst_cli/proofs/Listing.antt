@@ -7,7 +7,7 @@ use Rattle.sst_key.specs.ListMachine.{first_of, next_of}
 use Rattle.sst_text.specs.EntryText.{lines_text}
 use Rattle.std.specs.Option.{is_some}
 use Rattle.sst_block.proofs.NextRow.{drop-at}
-use Rattle.sst_bbt_spec.specs.Way.{IndexedBlock}
+use Rattle.sst_bbt_spec.specs.Parts.{Part}
 use Rattle.sst_bbt_read.specs.Kept.{StandsOn}
 use Rattle.sst_bbt_read.specs.Positions.{is_placed}
 use Rattle.sst_bbt_read.specs.Seats.{OpenReader}
@@ -55,15 +55,15 @@ nothing-left snapshot last entries None there told is = nothing-scanned snapshot
 nothing-left snapshot last entries (Some i) there told is = absurd cc
 
 -- the entry where a cursor stands
-pub record IsHere (r : OpenReader) (c : Cursor) (blocks : List IndexedBlock) (place : Option ℕ) : Type 0 where
+pub record IsHere (r : OpenReader) (c : Cursor) (parts : List Part) (place : Option ℕ) : Type 0 where
   pub i : ℕ
   pub is : place ≡ Some i
-  pub stands : StandsOn r c blocks (Some i)
+  pub stands : StandsOn r c parts (Some i)
 
-pub here-at : (r : OpenReader) (c : Cursor) (blocks : List IndexedBlock) (place : Option ℕ) (there : Bool) → StandsOn r c blocks place → there ≡ is_some place → there ≡ true
-    → IsHere r c blocks place
-here-at r c blocks None there stands told is = absurd cc
-here-at r c blocks (Some i) there stands told is = record { i = i; is = refl; stands = stands }
+pub here-at : (r : OpenReader) (c : Cursor) (parts : List Part) (place : Option ℕ) (there : Bool) → StandsOn r c parts place → there ≡ is_some place → there ≡ true
+    → IsHere r c parts place
+here-at r c parts None there stands told is = absurd cc
+here-at r c parts (Some i) there stands told is = record { i = i; is = refl; stands = stands }
 
-pub here-placed : (r : OpenReader) (c : Cursor) (blocks : List IndexedBlock) (place : Option ℕ) → IsHere r c blocks place → is_placed c ≡ true
-here-placed r c blocks place here = ap is_some here.stands.stands
+pub here-placed : (r : OpenReader) (c : Cursor) (parts : List Part) (place : Option ℕ) → IsHere r c parts place → is_placed c ≡ true
+here-placed r c parts place here = ap is_some here.stands.stands

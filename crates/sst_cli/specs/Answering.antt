@@ -10,7 +10,7 @@ use Rattle.sst_key.specs.declared.calls.Reply.TheVariants as reply
 use Rattle.sst_key.specs.declared.entries.Entry.{Entry}
 use Rattle.sst_device.specs.Folder.{Files}
 use Rattle.sst_text.specs.ReplyText.{reply_line}
-use Rattle.sst_bbt_spec.specs.Way.{IndexedBlock}
+use Rattle.sst_bbt_spec.specs.Parts.{Part}
 use Rattle.sst_bbt_read.specs.Kept.{StandsOn}
 use Rattle.sst_bbt_read.specs.Seats.{OpenReader}
 use Rattle.sst_bbt_read.specs.declared.bbt_fault.BbtFault.{BbtFault}
@@ -41,8 +41,8 @@ reply_text said shown call = reply_line said shown call ++ 10 ∷ []
 
 -- both cursors stand somewhere on the blocks
 -- Pinned by: put_answer.both
-abbrev pub StandBoth : OpenReader → Cursor → Cursor → List IndexedBlock → Type 0
-StandBoth r c d blocks = ((place : Option ℕ) × StandsOn r c blocks place) × ((place : Option ℕ) × StandsOn r d blocks place)
+abbrev pub StandBoth : OpenReader → Cursor → Cursor → List Part → Type 0
+StandBoth r c d parts = ((place : Option ℕ) × StandsOn r c parts place) × ((place : Option ℕ) × StandsOn r d parts place)
 
 -- the folder is as it was, and counted no fault
 -- Pinned by: run.hides_none

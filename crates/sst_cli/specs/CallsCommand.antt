@@ -6,10 +6,10 @@ use Rattle.sst_key.specs.declared.entries.Entry.{Entry}
 use Rattle.sst_key.specs.declared.calls.Call.{Call}
 use Rattle.sst_meta.specs.Footer.{later_length}
 use Rattle.sst_meta.specs.FooterReading.{last_bytes}
-use Rattle.sst_bbt_spec.specs.Way.{IndexedBlock}
+use Rattle.sst_bbt_spec.specs.Parts.{Part}
 use Rattle.sst_bbt_read.specs.FaultText.{fault_text}
-use Rattle.sst_bbt_read.specs.Opening.{blocks_read}
-use Rattle.sst_bbt_read.specs.Shows.{Shows}
+use Rattle.sst_bbt_read.specs.OpeningFaults.{FailsToOpen}
+use Rattle.sst_bbt_read.specs.OpeningSteps.{Shows}
 use Rattle.sst_bbt_read.specs.declared.bbt_fault.BbtFault.{BbtFault}
 use Rattle.sst_device.specs.Folder.{Files}
 use Rattle.sst_text.specs.Taken.{IsTakenTo}
@@ -33,11 +33,11 @@ pub record Answered (result : Status) (entries : List Entry) (calls : List Call)
 
 -- the same on a file with these blocks: the answers by their way are printed
 -- Pinned by: what_calls_come_to.answered, what_calls_come_to.done
-pub record AnsweredByWay (result : Status) (blocks : List IndexedBlock) (calls : List Call) (old new : Option Files) (left before now : Option (List ℕ)) : Type 0 where
+pub record AnsweredByWay (result : Status) (parts : List Part) (calls : List Call) (old new : Option Files) (left before now : Option (List ℕ)) : Type 0 where
   pub done : result ≡ Done
   pub kept : new ≡ old
   pub read : left ≡ Some []
-  pub printed : now ≡ append_known before (way_text blocks calls)
+  pub printed : now ≡ append_known before (way_text parts calls)
 
 -- the first thing that is wrong with the file was printed, the file shows it, and the input is read to its end; that
 -- it is shown needs that the last numbers of the file, as many as a footer has, are bytes, as those of a real one are
@@ -46,14 +46,14 @@ pub record IsDamaged (result : Status) (file : List ℕ) (left before now : Opti
   pub ends : result ≡ File
   pub read : left ≡ Some []
   pub fault : BbtFault
-  pub first : blocks_read file ≡ Err fault
+  pub first : FailsToOpen file fault
   pub shown : IsBytes (last_bytes later_length file) → Shows file fault
   pub printed : now ≡ append_known before (fault_text fault)
 
 -- what is answered of data blocks: a line for each call, by the way of the blocks
 -- Pinned by: run.headline_calls, what_calls_come_to.answered
-abbrev pub answers_of : List Call → List IndexedBlock → Outcome
-answers_of calls blocks = done_with (way_text blocks calls)
+abbrev pub answers_of : List Call → List Part → Outcome
+answers_of calls parts = done_with (way_text parts calls)
 
 -- what a `calls` may find: a refusal of its input; or these calls, and then its file as this
 -- Pinned by: what_calls_come_to.answered, what_calls_come_to.refused

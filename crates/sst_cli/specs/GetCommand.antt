@@ -4,7 +4,8 @@ use Rattle.sst_key.specs.declared.calls.Target.{Target}
 use Rattle.sst_key.specs.declared.entries.Entry.{Entry}
 use Rattle.sst_key.specs.ListMachine.{get_of}
 use Rattle.sst_text.specs.EntryText.{ended_line}
-use Rattle.sst_bbt_spec.specs.Way.{IndexedBlock, joined, way_get}
+use Rattle.sst_bbt_spec.specs.Parts.{Part, stored_in}
+use Rattle.sst_bbt_spec.specs.PartWay.{get_in_parts}
 use Rattle.sst_cli.specs.Behaviour.{Behaviour}
 use Rattle.sst_cli.specs.OpenFile.{prints_of_file}
 use Rattle.sst_cli.specs.Words.{GetLine}
@@ -29,8 +30,8 @@ got_text entries target = found_text (entry_at entries (get_of entries target.us
 
 -- the text of a Get by the way of data blocks
 -- Pinned by: what_a_get_comes_to.got, questions
-abbrev pub way_got_text : Target → List IndexedBlock → List ℕ
-way_got_text target blocks = found_text (entry_at (joined blocks) (way_get blocks target.user target.seq))
+abbrev pub way_got_text : Target → List Part → List ℕ
+way_got_text target parts = found_text (entry_at (stored_in parts) (get_in_parts None parts target.user target.seq))
 
 -- what a `get` comes to
 -- Pinned by: what_a_get_comes_to.got, questions

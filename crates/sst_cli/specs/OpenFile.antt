@@ -6,10 +6,10 @@ use Rattle.sst_meta.specs.Footer.{later_length}
 use Rattle.sst_meta.specs.FooterReading.{last_bytes}
 use Rattle.sst_bbt_spec.specs.BlockBased.{Opens}
 use Rattle.sst_bbt_spec.specs.Rows.{HasSeq}
-use Rattle.sst_bbt_spec.specs.Way.{IndexedBlock, joined}
+use Rattle.sst_bbt_spec.specs.Parts.{Part, stored_in}
 use Rattle.sst_bbt_read.specs.FaultText.{fault_text}
-use Rattle.sst_bbt_read.specs.Opening.{blocks_read}
-use Rattle.sst_bbt_read.specs.Shows.{Shows}
+use Rattle.sst_bbt_read.specs.OpeningFaults.{FailsToOpen}
+use Rattle.sst_bbt_read.specs.OpeningSteps.{Shows}
 use Rattle.sst_bbt_read.specs.declared.bbt_fault.BbtFault.{BbtFault}
 use Rattle.sst_device.specs.Folder.{Files, misses}
 use Rattle.sst_cli.specs.Behaviour.{World, Outcome, Behaviour, FileIs}
@@ -22,15 +22,15 @@ use Rattle.sst_cli.specs.declared.status.Status.TheVariants.{Done, File, Device}
 pub data OpenFile : Type 0 where
   Absent : OpenFile
   Damaged : BbtFault → OpenFile
-  Opened : List IndexedBlock → OpenFile
+  Opened : List Part → OpenFile
 
 -- Where the folder tells its files, the named one is found so. The sequence numbers of blocks to which a file opens are in
 -- range, be the files told or not.
 -- Pinned by: what_calls_come_to.answered, what_calls_come_to.damaged, what_calls_come_to.absent
 abbrev pub IsOpenFile : Option Files → List ℕ → OpenFile → Type 0
 IsOpenFile held name Absent = IsTrue (misses held name 0)
-IsOpenFile held name (Damaged fault) = FileIs held name (λ file. blocks_read file ≡ Err fault)
-IsOpenFile held name (Opened blocks) = All HasSeq (joined blocks) × FileIs held name (λ file. Opens file blocks)
+IsOpenFile held name (Damaged fault) = FileIs held name (λ file. FailsToOpen file fault)
+IsOpenFile held name (Opened parts) = All HasSeq (stored_in parts) × FileIs held name (λ file. Opens file parts)
 
 -- the command did all, and this is its text
 -- Pinned by: what_calls_come_to.answered
@@ -45,14 +45,14 @@ cut_by text fault = record { status = File; text = text ++ fault_text fault }
 -- what is answered of a file, by what is answered of the data blocks to which it opens. Of one that isn't there nothing is
 -- printed.
 -- Pinned by: what_calls_come_to.damaged, what_calls_come_to.absent
-abbrev pub file_outcome : (List IndexedBlock → Outcome) → OpenFile → Outcome
+abbrev pub file_outcome : (List Part → Outcome) → OpenFile → Outcome
 file_outcome answer Absent = record { status = Device; text = [] }
 file_outcome answer (Damaged fault) = cut_by [] fault
-file_outcome answer (Opened blocks) = answer blocks
+file_outcome answer (Opened parts) = answer parts
 
 -- the command that opens the named file and answers so of its data blocks; it changes nothing and takes no input
 -- Pinned by: run.ends
-abbrev pub on_file : List ℕ → (List IndexedBlock → Outcome) → Behaviour
+abbrev pub on_file : List ℕ → (List Part → Outcome) → Behaviour
 on_file name answer =
     record {
       Found = OpenFile;
@@ -66,8 +66,8 @@ on_file name answer =
 
 -- the command that opens the named file and prints this text of its data blocks
 -- Pinned by: what_reading_a_file_comes_to.printed
-abbrev pub prints_of_file : List ℕ → (List IndexedBlock → List ℕ) → Behaviour
-prints_of_file name text = on_file name (λ blocks. done_with (text blocks))
+abbrev pub prints_of_file : List ℕ → (List Part → List ℕ) → Behaviour
+prints_of_file name text = on_file name (λ parts. done_with (text parts))
 
 -- the command did all: this text was printed, no file changed, and the input wasn't touched
 -- Pinned by: what_reading_a_file_comes_to.printed, what_a_get_comes_to.got_as_list
@@ -86,6 +86,6 @@ pub record TellsDamage (status : Status) (file : List ℕ) (before after : World
   pub kept : after.told.held ≡ before.told.held
   pub left : after.told.left ≡ before.told.left
   pub fault : BbtFault
-  pub first : blocks_read file ≡ Err fault
+  pub first : FailsToOpen file fault
   pub shown : IsBytes (last_bytes later_length file) → Shows file fault
   pub printed : after.written ≡ append_known before.written (fault_text fault)

@@ -22,6 +22,12 @@ number_within least most n = if nat_le least n && nat_le n most then Some n else
 abbrev pub option_number : List ℕ → ℕ → ℕ → List ℕ → Option ℕ
 option_number front least most word = option_and_then (λ n. number_within least most n) (option_and_then seq_field (behind front word))
 
+-- the number of the option `version=N`
+-- RocksDB: format_version
+-- Pinned by: words_that_are_no_command, good_options
+unfoldable pub version_number : List ℕ → Option ℕ
+version_number word = option_number (codes "version=") 2 4 word
+
 -- the number of the option `block=N`
 -- RocksDB: block_size
 -- Pinned by: words_that_are_no_command, good_options
@@ -40,10 +46,16 @@ restart_number word = option_number (codes "restart=") 1 65536 word
 unfoldable pub index_restart_number : List ℕ → Option ℕ
 index_restart_number word = option_number (codes "index-restart=") 1 65536 word
 
+-- the number of the option `parts=N`
+-- RocksDB: metadata_block_size, which counts bytes
+-- Pinned by: words_that_are_no_command, good_options
+unfoldable pub parts_number : List ℕ → Option ℕ
+parts_number word = option_number (codes "parts=") 0 65536 word
+
 -- nothing is said yet
 -- Pinned by: good_options, forty_entries
 abbrev pub none_said : Said
-none_said = record { block_size = None; restart = None; index_restart = None }
+none_said = record { version = None; block_size = None; restart = None; index_restart = None; parts = None }
 
 -- the number is said, if none was said before
 -- Own.
@@ -52,31 +64,55 @@ abbrev pub once : Option ℕ → ℕ → Option ℕ
 once None n = Some n
 once (Some m) n = None
 
--- the word is none of the options but the last, or is that
+-- the word is `parts=N`
 -- Pinned by: good_options, words_that_are_no_command
-abbrev pub say_index_restart : Option ℕ → Said → Option Said
-say_index_restart None said = None
-say_index_restart (Some n) said =
-    option_map (λ m. record { block_size = said.block_size; restart = said.restart; index_restart = Some m }) (once said.index_restart n)
+abbrev pub say_parts : Option ℕ → Said → Option Said
+say_parts None said = None
+say_parts (Some n) said =
+    option_map
+    (λ m. record { version = said.version; block_size = said.block_size; restart = said.restart; index_restart = said.index_restart; parts = Some m })
+    (once said.parts n)
 
--- the word isn't the first option: it is the second, or a later one
+-- the word is `index-restart=N`, or one of the options above
+-- Pinned by: good_options, words_that_are_no_command
+abbrev pub say_index_restart : Option ℕ → List ℕ → Said → Option Said
+say_index_restart None word said = say_parts (parts_number word) said
+say_index_restart (Some n) word said =
+    option_map
+    (λ m. record { version = said.version; block_size = said.block_size; restart = said.restart; index_restart = Some m; parts = said.parts })
+    (once said.index_restart n)
+
+-- the word is `restart=N`, or one of the options above
 -- Pinned by: good_options, words_that_are_no_command
 abbrev pub say_restart : Option ℕ → List ℕ → Said → Option Said
-say_restart None word said = say_index_restart (index_restart_number word) said
+say_restart None word said = say_index_restart (index_restart_number word) word said
 say_restart (Some n) word said =
-    option_map (λ m. record { block_size = said.block_size; restart = Some m; index_restart = said.index_restart }) (once said.restart n)
+    option_map
+    (λ m. record { version = said.version; block_size = said.block_size; restart = Some m; index_restart = said.index_restart; parts = said.parts })
+    (once said.restart n)
 
--- the word is the first option, or a later one
+-- the word is `block=N`, or one of the options above
 -- Pinned by: good_options, words_that_are_no_command
 abbrev pub say_block : Option ℕ → List ℕ → Said → Option Said
 say_block None word said = say_restart (restart_number word) word said
 say_block (Some n) word said =
-    option_map (λ m. record { block_size = Some m; restart = said.restart; index_restart = said.index_restart }) (once said.block_size n)
+    option_map
+    (λ m. record { version = said.version; block_size = Some m; restart = said.restart; index_restart = said.index_restart; parts = said.parts })
+    (once said.block_size n)
+
+-- the word is `version=N`, or one of the options above
+-- Pinned by: good_options, words_that_are_no_command
+abbrev pub say_version : Option ℕ → List ℕ → Said → Option Said
+say_version None word said = say_block (block_number word) word said
+say_version (Some n) word said =
+    option_map
+    (λ m. record { version = Some m; block_size = said.block_size; restart = said.restart; index_restart = said.index_restart; parts = said.parts })
+    (once said.version n)
 
 -- one word more is said; nothing where it is no option, or one that was said before
 -- Pinned by: words_that_are_no_command, good_options
 abbrev pub say : List ℕ → Said → Option Said
-say word said = say_block (block_number word) word said
+say word said = say_version (version_number word) word said
 
 -- all words, one after the other
 -- Pinned by: words_that_are_no_command, good_options
@@ -96,9 +132,11 @@ or_default (Some m) n = m
 abbrev pub chosen_of : Said → BbtOptions
 chosen_of said =
     record {
+      version = or_default said.version 2;
       block_size = or_default said.block_size 4096;
       restart = or_default said.restart 16;
       index_restart = or_default said.index_restart 1;
+      parts = or_default said.parts 0;
     }
 
 -- the options of some words

@@ -9,7 +9,8 @@ use Rattle.sst_key.specs.declared.calls.Format.TheVariants.{Block}
 use Rattle.sst_key.specs.ListMachine.{replies_from}
 use Rattle.sst_text.specs.ReplyText.{reply_line}
 use Rattle.sst_bbt_read.specs.Cursors.{entry_shown}
-use Rattle.sst_bbt_spec.specs.Way.{IndexedBlock, joined, way_replies_from}
+use Rattle.sst_bbt_spec.specs.Parts.{Part, stored_in}
+use Rattle.sst_bbt_spec.specs.PartWay.{replies_in_parts_from}
 
 -- the line of what a call answers, and its line end
 abbrev pub answer_line : List Entry → Call → Answer → List ℕ
@@ -33,18 +34,18 @@ answers_text entries calls = answers_from entries None calls
 
 -- the text of the answers by the way of the blocks, from a position on
 -- Pinned by: what_calls_come_to.answered, entries_after_separators
-unfoldable pub way_from : List IndexedBlock → Option ℕ → List Call → List ℕ
-way_from blocks position calls = lines_of (joined blocks) calls (way_replies_from blocks position calls)
+unfoldable pub way_from : List Part → Option ℕ → List Call → List ℕ
+way_from parts position calls = lines_of (stored_in parts) calls (replies_in_parts_from None parts position calls)
 
 -- the text of the answers of a block-based table with these blocks
 -- Pinned by: what_calls_come_to.answered, entries_after_separators
-abbrev pub way_text : List IndexedBlock → List Call → List ℕ
-way_text blocks calls = way_from blocks None calls
+abbrev pub way_text : List Part → List Call → List ℕ
+way_text parts calls = way_from parts None calls
 
 -- Part of a text was printed: what was put so far, what waits in `text` and the answers to the calls from here on make
 -- up the whole.
 -- Pinned by: what_calls_come_to.answered
-pub record Printing (blocks : List IndexedBlock) (calls : List Call) (before now : Option (List ℕ)) (text : List ℕ) (position : Option ℕ) (rest : List Call) : Type 0 where
+pub record Printing (parts : List Part) (calls : List Call) (before now : Option (List ℕ)) (text : List ℕ) (position : Option ℕ) (rest : List Call) : Type 0 where
   pub put : List ℕ
   pub printed : now ≡ append_known before put
-  pub whole : way_text blocks calls ≡ put ++ (text ++ way_from blocks position rest)
+  pub whole : way_text parts calls ≡ put ++ (text ++ way_from parts position rest)

@@ -3,7 +3,7 @@ use Rattle.std.specs.Prelude.{ℕ, nat_le, Bool, true, false, if◌then◌else�
 use Rattle.sst_key.specs.declared.entries.Entry.{Entry}
 use Rattle.sst_key.specs.ListMachine.{is_of_user, visible}
 use Rattle.sst_text.specs.EntryText.{lines_text}
-use Rattle.sst_bbt_spec.specs.Way.{IndexedBlock, joined}
+use Rattle.sst_bbt_spec.specs.Parts.{Part, stored_in}
 use Rattle.sst_cli.specs.Behaviour.{Behaviour}
 use Rattle.sst_cli.specs.OpenFile.{prints_of_file}
 use Rattle.sst_cli.specs.Words.{ScanLine}
@@ -50,8 +50,8 @@ list_text (Some snapshot) entries = lines_text (visible entries snapshot)
 
 -- the text of a scan over data blocks
 -- Pinned by: what_a_scan_comes_to.scanned, questions
-abbrev pub scan_text : Option ℕ → List IndexedBlock → List ℕ
-scan_text snapshot blocks = lines_text (scanned_after snapshot None (joined blocks))
+abbrev pub scan_text : Option ℕ → List Part → List ℕ
+scan_text snapshot parts = lines_text (scanned_after snapshot None (stored_in parts))
 
 -- what a `scan` comes to
 -- Pinned by: what_a_scan_comes_to.scanned, questions

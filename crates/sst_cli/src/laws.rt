@@ -1,5 +1,5 @@
 //! Laws: the text of a list reads back as the list, what a text says is within the limits, and a file that is written reads back.
-ghost use Rattle.std.specs.Prelude.{◌≡◌, ℕ, ◌≤◌, List, length, Ok};
+ghost use Rattle.std.specs.Prelude.{◌≡◌, ℕ, ◌≤◌, List, length};
 ghost use Rattle.sst_key.specs.declared.calls.Call.{Call};
 ghost use Rattle.sst_key.specs.declared.entries.Entry.{Entry};
 ghost use Rattle.sst_bbt_write.specs.Written.{Fits, MayBeChosen, table_of};
@@ -7,9 +7,8 @@ ghost use Rattle.sst_bbt_write.specs.declared.bbt_options.BbtOptions.{BbtOptions
 ghost use Rattle.sst_text.specs.EntryText.{AreBytes, lines_text};
 ghost use Rattle.sst_text.specs.CallText.{AreInLimits, AreOfBytes, calls_text};
 ghost use Rattle.sst_cli.specs.InputReading.{read_input, read_calls};
-ghost use Rattle.sst_bbt_spec.specs.Way.{IndexedBlock, joined};
-ghost use Rattle.sst_bbt_read.specs.Opening.{blocks_read};
-ghost use Rattle.sst_bbt_read.specs.TableBlocks.{row_blocks_of};
+ghost use Rattle.sst_bbt_spec.specs.Parts.{Part, stored_in};
+ghost use Rattle.sst_bbt_spec.specs.BlockBased.{Opens};
 
 /// The text that is written for a list reads back as the list.
 ///
@@ -42,7 +41,7 @@ pub fn what_a_text_says_fits()
         → (length calls ≤ 1048576) × AreInLimits calls × AreOfBytes calls }
 {}
 
-/// The file that is written for a list reads back as data blocks whose entries are that list.
+/// The file that is written for a list opens to parts of an index whose entries are that list.
 ///
 /// It holds of the options that may be chosen, and of each list that is written: one that increases, whose entries are within their limits, and whose
 /// weight is at most 2^28. The list with no entry is one.
@@ -50,6 +49,5 @@ pub fn what_a_text_says_fits()
 /// in table/block_based/block_based_table_reader.cc.
 pub fn a_written_file_reads_back()
     ensures { (options : BbtOptions) (entries : List Entry) → MayBeChosen options → Fits entries
-        → (blocks : List IndexedBlock) × (blocks_read (table_of options entries) ≡ Ok (row_blocks_of blocks))
-        × (joined blocks ≡ entries) }
+        → (parts : List Part) × Opens (table_of options entries) parts × (stored_in parts ≡ entries) }
 {}

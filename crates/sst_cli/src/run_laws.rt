@@ -9,8 +9,8 @@ ghost use Rattle.sst_device.specs.Folder.{Files, file_of, misses, put_file};
 ghost use Rattle.sst_text.specs.Taken.{IsTakenTo};
 ghost use Rattle.sst_bbt_write.specs.Written.{MayBeChosen};
 ghost use Rattle.sst_bbt_spec.specs.BlockBased.{BlockBased, Opens};
-ghost use Rattle.sst_bbt_spec.specs.Way.{IndexedBlock};
-ghost use Rattle.sst_bbt_read.specs.Opening.{blocks_read};
+ghost use Rattle.sst_bbt_spec.specs.Parts.{Part};
+ghost use Rattle.sst_bbt_read.specs.OpeningFaults.{FailsToOpen};
 ghost use Rattle.sst_bbt_read.specs.declared.bbt_fault.BbtFault.{BbtFault};
 ghost use Rattle.sst_cli.specs.Behaviour.{CallsFor, Ends, IsFault, MayPrint, Told, World, tells};
 ghost use Rattle.sst_cli.specs.CallsCommand.{Answered, AnsweredByWay, IsDamaged, calls_command};
@@ -81,7 +81,7 @@ pub fn what_a_run_comes_to()
         × (command ≡ Some (Command.Calls name) → (text : List ℕ) → told.left ≡ Some text → (calls : List Call) × (read_calls text ≡ Ok calls)) }
     ensures file_only { (command : Option Command) (before after : World) (status : Status) → Ends (behaviour command) before after status
         → status ≡ ends_with.File → (name : List ℕ) × (option_and_then file_read command ≡ Some name)
-        × ((file : List ℕ) → file_of before.told.held name ≡ Some file → (fault : BbtFault) × (blocks_read file ≡ Err fault)) }
+        × ((file : List ℕ) → file_of before.told.held name ≡ Some file → (fault : BbtFault) × (FailsToOpen file fault)) }
     ensures never { (command : Option Command) (before after : World) (status : Status) → Ends (behaviour command) before after status
         → status ≢ ends_with.Exhausted }
 {}
@@ -135,14 +135,14 @@ pub fn what_calls_come_to()
         → file_of before.told.held name ≡ Some file → BlockBased file entries
         → before.told.left ≡ Some text → read_calls text ≡ Ok calls
         → IsFault status ⊎ Answered status entries calls before.told.held after.told.held after.told.left before.written after.written }
-    ensures answered { (name : List ℕ) (before after : World) (status : Status) (file text : List ℕ) (blocks : List IndexedBlock) (calls : List Call)
+    ensures answered { (name : List ℕ) (before after : World) (status : Status) (file text : List ℕ) (parts : List Part) (calls : List Call)
         → Ends (calls_command name) before after status
-        → Opens file blocks → file_of before.told.held name ≡ Some file
+        → Opens file parts → file_of before.told.held name ≡ Some file
         → before.told.left ≡ Some text → read_calls text ≡ Ok calls
-        → IsFault status ⊎ AnsweredByWay status blocks calls before.told.held after.told.held after.told.left before.written after.written }
+        → IsFault status ⊎ AnsweredByWay status parts calls before.told.held after.told.held after.told.left before.written after.written }
     ensures damaged { (name : List ℕ) (before after : World) (status : Status) (file text : List ℕ) (calls : List Call)
         → Ends (calls_command name) before after status
-        → file_of before.told.held name ≡ Some file → ((blocks : List IndexedBlock) → Opens file blocks → ⊥)
+        → file_of before.told.held name ≡ Some file → ((parts : List Part) → Opens file parts → ⊥)
         → before.told.left ≡ Some text → read_calls text ≡ Ok calls
         → IsFault status ⊎ IsDamaged status file after.told.left before.written after.written }
     ensures refused { (name : List ℕ) (before after : World) (status : Status) (text : List ℕ) (refusal : Refusal)
@@ -162,11 +162,11 @@ pub fn what_calls_come_to()
     ensures done { (name : List ℕ) (before after : World) (status : Status) (file text : List ℕ)
         → Ends (calls_command name) before after status
         → status ≡ ends_with.Done → file_of before.told.held name ≡ Some file → before.told.left ≡ Some text
-        → (blocks : List IndexedBlock) × (calls : List Call) × Opens file blocks × (read_calls text ≡ Ok calls)
-        × AnsweredByWay status blocks calls before.told.held after.told.held after.told.left before.written after.written }
+        → (parts : List Part) × (calls : List Call) × Opens file parts × (read_calls text ≡ Ok calls)
+        × AnsweredByWay status parts calls before.told.held after.told.held after.told.left before.written after.written }
     ensures done_only { (name : List ℕ) (before after : World) (status : Status) (file : List ℕ)
         → Ends (calls_command name) before after status
-        → status ≡ ends_with.Done → file_of before.told.held name ≡ Some file → (blocks : List IndexedBlock) × Opens file blocks }
+        → status ≡ ends_with.Done → file_of before.told.held name ≡ Some file → (parts : List Part) × Opens file parts }
     ensures read_to_its_end { (name : List ℕ) (before after : World) (status : Status) (text : List ℕ)
         → Ends (calls_command name) before after status
         → (status ≡ ends_with.Done) ⊎ (status ≡ ends_with.File) → before.told.left ≡ Some text
@@ -185,20 +185,20 @@ pub fn what_calls_come_to()
 /// nothing is printed. `done`: a run that ends with Done has printed the text of its file, which opens. `statuses`: there are no
 /// others. The statuses and the texts are this project's own.
 pub fn what_reading_a_file_comes_to()
-    ensures printed { (name : List ℕ) (text : List IndexedBlock → List ℕ) (before after : World) (status : Status) (file : List ℕ) (blocks : List IndexedBlock)
-        → Ends (prints_of_file name text) before after status → Opens file blocks → file_of before.told.held name ≡ Some file
-        → IsFault status ⊎ HasShown status (text blocks) before after }
-    ensures damaged { (name : List ℕ) (text : List IndexedBlock → List ℕ) (before after : World) (status : Status) (file : List ℕ)
+    ensures printed { (name : List ℕ) (text : List Part → List ℕ) (before after : World) (status : Status) (file : List ℕ) (parts : List Part)
+        → Ends (prints_of_file name text) before after status → Opens file parts → file_of before.told.held name ≡ Some file
+        → IsFault status ⊎ HasShown status (text parts) before after }
+    ensures damaged { (name : List ℕ) (text : List Part → List ℕ) (before after : World) (status : Status) (file : List ℕ)
         → Ends (prints_of_file name text) before after status → file_of before.told.held name ≡ Some file
-        → ((blocks : List IndexedBlock) → Opens file blocks → ⊥) → IsFault status ⊎ TellsDamage status file before after }
-    ensures absent { (name : List ℕ) (text : List IndexedBlock → List ℕ) (before after : World) (status : Status)
+        → ((parts : List Part) → Opens file parts → ⊥) → IsFault status ⊎ TellsDamage status file before after }
+    ensures absent { (name : List ℕ) (text : List Part → List ℕ) (before after : World) (status : Status)
         → Ends (prints_of_file name text) before after status → IsTrue (misses before.told.held name 0) → IsFault status }
-    ensures prints_nothing { (name : List ℕ) (text : List IndexedBlock → List ℕ) (before after : World) (status : Status)
+    ensures prints_nothing { (name : List ℕ) (text : List Part → List ℕ) (before after : World) (status : Status)
         → Ends (prints_of_file name text) before after status → IsTrue (misses before.told.held name 0) → after.written ≡ before.written }
-    ensures done { (name : List ℕ) (text : List IndexedBlock → List ℕ) (before after : World) (status : Status) (file : List ℕ)
+    ensures done { (name : List ℕ) (text : List Part → List ℕ) (before after : World) (status : Status) (file : List ℕ)
         → Ends (prints_of_file name text) before after status → status ≡ ends_with.Done → file_of before.told.held name ≡ Some file
-        → (blocks : List IndexedBlock) × Opens file blocks × HasShown status (text blocks) before after }
-    ensures statuses { (name : List ℕ) (text : List IndexedBlock → List ℕ) (before after : World) (status : Status)
+        → (parts : List Part) × Opens file parts × HasShown status (text parts) before after }
+    ensures statuses { (name : List ℕ) (text : List Part → List ℕ) (before after : World) (status : Status)
         → Ends (prints_of_file name text) before after status → (status ≡ ends_with.Done) ⊎ ((status ≡ ends_with.File) ⊎ IsFault status) }
 {}
 
@@ -211,9 +211,9 @@ pub fn what_a_get_comes_to()
     ensures got_as_list { (get : GetLine) (before after : World) (status : Status) (file : List ℕ) (entries : List Entry)
         → Ends (get_command get) before after status → file_of before.told.held get.name ≡ Some file → BlockBased file entries
         → IsFault status ⊎ HasShown status (got_text entries get.target) before after }
-    ensures got { (get : GetLine) (before after : World) (status : Status) (file : List ℕ) (blocks : List IndexedBlock)
-        → Ends (get_command get) before after status → file_of before.told.held get.name ≡ Some file → Opens file blocks
-        → IsFault status ⊎ HasShown status (way_got_text get.target blocks) before after }
+    ensures got { (get : GetLine) (before after : World) (status : Status) (file : List ℕ) (parts : List Part)
+        → Ends (get_command get) before after status → file_of before.told.held get.name ≡ Some file → Opens file parts
+        → IsFault status ⊎ HasShown status (way_got_text get.target parts) before after }
     ensures command { (words : List (List ℕ)) (get : GetLine) (before after : World) (status : Status) → line.get_line words ≡ Some get
         → Ends (behaviour (command_of words)) before after status → Ends (get_command get) before after status }
 {}
@@ -228,9 +228,9 @@ pub fn what_a_scan_comes_to()
     ensures scanned_as_list { (scan : ScanLine) (before after : World) (status : Status) (file : List ℕ) (entries : List Entry)
         → Ends (scan_command scan) before after status → file_of before.told.held scan.name ≡ Some file → BlockBased file entries
         → IsFault status ⊎ HasShown status (list_text scan.snapshot entries) before after }
-    ensures scanned { (scan : ScanLine) (before after : World) (status : Status) (file : List ℕ) (blocks : List IndexedBlock)
-        → Ends (scan_command scan) before after status → file_of before.told.held scan.name ≡ Some file → Opens file blocks
-        → IsFault status ⊎ HasShown status (scan_text scan.snapshot blocks) before after }
+    ensures scanned { (scan : ScanLine) (before after : World) (status : Status) (file : List ℕ) (parts : List Part)
+        → Ends (scan_command scan) before after status → file_of before.told.held scan.name ≡ Some file → Opens file parts
+        → IsFault status ⊎ HasShown status (scan_text scan.snapshot parts) before after }
     ensures command { (words : List (List ℕ)) (scan : ScanLine) (before after : World) (status : Status) → line.scan_line words ≡ Some scan
         → Ends (behaviour (command_of words)) before after status → Ends (scan_command scan) before after status }
 {}

@@ -4,7 +4,7 @@ ghost use Rattle.sst_bbt_read.specs.Cursors.{lent};
 ghost use Rattle.sst_bbt_read.specs.Kept.{Keeps, StandsOn};
 ghost use Rattle.sst_bbt_read.specs.Positions.{Belongs};
 ghost use Rattle.sst_bbt_read.specs.Seats.{SameSeats, open_of, seats_of};
-ghost use Rattle.sst_bbt_spec.specs.Way.{IndexedBlock};
+ghost use Rattle.sst_bbt_spec.specs.Parts.{Part};
 ghost use Rattle.sst_cli.specs.Answering.{IsQuiet};
 ghost use Rattle.sst_cli.specs.Behaviour.{Carries, world};
 ghost use Rattle.sst_cli.specs.GetCommand.{found_text, get_command, way_got_text};
@@ -52,9 +52,9 @@ fn print_found<F: Folder, O: Sink>(
     out: &mut O,
 ) -> Status
     requires seats { (seats_of reader ≡ 1) × (open_of reader ≡ 0) }
-    requires kept { (blocks : List IndexedBlock) × Keeps reader blocks }
-    ensures printed { (blocks : List IndexedBlock) → Keeps reader blocks
-        → IsPrinted result (done_with (way_got_text target.now blocks)) (O.written out.old) (O.written out.new) (O.faults out.old) (O.faults out.new) }
+    requires kept { (parts : List Part) × Keeps reader parts }
+    ensures printed { (parts : List Part) → Keeps reader parts
+        → IsPrinted result (done_with (way_got_text target.now parts)) (O.written out.old) (O.written out.new) (O.faults out.old) (O.faults out.new) }
     ensures folder { IsQuiet (F.held files.old) (F.held files.new) (F.faults files.old) (F.faults files.new) }
 {
     let mut table = reader;
@@ -74,10 +74,10 @@ fn found_text<F: Folder>(
     target: &Target,
 ) -> Result<Vec<u8>, Memory>
     requires seats { (seats_of reader.old ≡ 1) × (open_of reader.old ≡ 0) }
-    requires kept { (blocks : List IndexedBlock) × Keeps reader.old blocks }
+    requires kept { (parts : List Part) × Keeps reader.old parts }
     ensures shut { open_of reader.new ≡ 0 }
     ensures folder { IsQuiet (F.held files.old) (F.held files.new) (F.faults files.old) (F.faults files.new) }
-    ensures text { (blocks : List IndexedBlock) → Keeps reader.old blocks → IfOk result (λ text. text.items ≡ way_got_text target.now blocks) }
+    ensures text { (parts : List Part) → Keeps reader.old parts → IfOk result (λ text. text.items ≡ way_got_text target.now parts) }
 {
     match reader.cursor() {
         Ok(mut found) => {
@@ -102,12 +102,12 @@ fn put_found<F: Folder>(
     target: &Target,
     text: &mut Vec<u8>,
 ) -> Result<(), Memory>
-    requires kept { (blocks : List IndexedBlock) × StandsOn reader.old found.old blocks None }
+    requires kept { (parts : List Part) × StandsOn reader.old found.old parts None }
     ensures belongs { Belongs reader.new found.new }
     ensures seats { SameSeats reader.old reader.new }
     ensures folder { IsQuiet (F.held files.old) (F.held files.new) (F.faults files.old) (F.faults files.new) }
-    ensures text { (blocks : List IndexedBlock) → StandsOn reader.old found.old blocks None
-        → OnOk result (text.new.items ≡ text.old.items ++ way_got_text target.now blocks) }
+    ensures text { (parts : List Part) → StandsOn reader.old found.old parts None
+        → OnOk result (text.new.items ≡ text.old.items ++ way_got_text target.now parts) }
 {
     match reader.get(files, found, target.user.as_slice(), target.seq) {
         Ok(_) => put_shown(text, shown(reader, found)),

@@ -2,7 +2,7 @@
 ghost use Rattle.std.specs.Prelude.{◌≡◌, ℕ, List, Option};
 ghost use Rattle.sst_bbt_read.specs.Kept.{Keeps};
 ghost use Rattle.sst_bbt_read.specs.Seats.{open_of, seats_of};
-ghost use Rattle.sst_bbt_spec.specs.Way.{IndexedBlock};
+ghost use Rattle.sst_bbt_spec.specs.Parts.{Part};
 ghost use Rattle.sst_cli.specs.Answering.{IsQuiet};
 ghost use Rattle.sst_cli.specs.Behaviour.{Carries, world};
 ghost use Rattle.sst_cli.specs.OpenFile.{done_with};
@@ -48,9 +48,9 @@ fn print_all<F: Folder, O: Sink>(
     out: &mut O,
 ) -> Status
     requires seats { (seats_of reader ≡ 1) × (open_of reader ≡ 0) }
-    requires kept { (blocks : List IndexedBlock) × Keeps reader blocks }
-    ensures printed { (blocks : List IndexedBlock) → Keeps reader blocks
-        → IsPrinted result (done_with (scan_text snapshot blocks)) (O.written out.old) (O.written out.new) (O.faults out.old) (O.faults out.new) }
+    requires kept { (parts : List Part) × Keeps reader parts }
+    ensures printed { (parts : List Part) → Keeps reader parts
+        → IsPrinted result (done_with (scan_text snapshot parts)) (O.written out.old) (O.written out.new) (O.faults out.old) (O.faults out.new) }
     ensures folder { IsQuiet (F.held files.old) (F.held files.new) (F.faults files.old) (F.faults files.new) }
 {
     let mut table = reader;

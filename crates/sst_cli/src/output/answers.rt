@@ -10,7 +10,8 @@ ghost use Rattle.sst_bbt_read.specs.Cursors.{lent};
 ghost use Rattle.sst_bbt_read.specs.Kept.{Answers, Keeps, KeptMove, OthersStand, StandsOn};
 ghost use Rattle.sst_bbt_read.specs.Positions.{AreTwo, Belongs, IsLost, IsSame};
 ghost use Rattle.sst_bbt_read.specs.Seats.{SameSeats, seats_of, open_of};
-ghost use Rattle.sst_bbt_spec.specs.Way.{IndexedBlock, joined, way_answer};
+ghost use Rattle.sst_bbt_spec.specs.Parts.{Part, stored_in};
+ghost use Rattle.sst_bbt_spec.specs.PartWay.{answer_in_parts};
 
 use sst_bbt_read::{BbtFault, BbtReader, Cursor, CursorStop};
 use sst_device::{DevStop, Folder, Sink, put_all};
@@ -80,8 +81,8 @@ fn reply_of(found: Result<bool, Stop<BbtFault>>) -> Result<Reply, Stop<BbtFault>
 /// The entry on which a cursor stands, if it stands on one.
 pub fn shown<'a>(reader: &'a BbtReader, cursor: &'a Cursor) -> Option<EntryView<'a>>
     requires { Belongs reader.now cursor.now }
-    ensures { (blocks : List IndexedBlock) (place : Option ℕ) → StandsOn reader.now cursor.now blocks place
-        → lent result ≡ option_and_then (λ i. slice_get (joined blocks) i) place }
+    ensures { (parts : List Part) (place : Option ℕ) → StandsOn reader.now cursor.now parts place
+        → lent result ≡ option_and_then (λ i. slice_get (stored_in parts) i) place }
 {
     if reader.stands(cursor) {
         Some(reader.entry(cursor))
@@ -99,10 +100,10 @@ fn put_line(
     replied: Result<Reply, Stop<BbtFault>>,
     call: &Call,
 ) -> Result<(), Memory>
-    requires { (blocks : List IndexedBlock) × (answer : answer_type) × Answers replied reader.now cursor.now blocks answer }
-    ensures { (blocks : List IndexedBlock) (answer : answer_type) → Answers replied reader.now cursor.now blocks answer
+    requires { (parts : List Part) × (answer : answer_type) × Answers replied reader.now cursor.now parts answer }
+    ensures { (parts : List Part) (answer : answer_type) → Answers replied reader.now cursor.now parts answer
         → OnOk result (text.new.items ≡ text.old.items
-        ++ reply_text answer.reply (option_and_then (λ i. slice_get (joined blocks) i) answer.position) call.now) }
+        ++ reply_text answer.reply (option_and_then (λ i. slice_get (stored_in parts) i) answer.position) call.now) }
 {
     match replied {
         Ok(reply) => put_reply_line(text, reply, shown(reader, cursor), call),
@@ -121,13 +122,13 @@ fn put_answer<F: Folder>(
     text: &mut Vec<u8>,
 ) -> Result<(), Memory>
     requires two { AreTwo position.old found.old }
-    requires kept { (blocks : List IndexedBlock) × StandBoth reader.old position.old found.old blocks }
-    ensures line { (blocks : List IndexedBlock) (place : Option ℕ) → StandsOn reader.old position.old blocks place
-        → OnOk result (text.new.items ≡ text.old.items ++ answer_line (joined blocks) call.now (way_answer blocks place call.now)) }
-    ensures stands { (blocks : List IndexedBlock) (place : Option ℕ) → StandsOn reader.old position.old blocks place
-        → StandsOn reader.new position.new blocks (way_answer blocks place call.now).position }
-    ensures both { (blocks : List IndexedBlock) → StandBoth reader.old position.old found.old blocks
-        → StandBoth reader.new position.new found.new blocks }
+    requires kept { (parts : List Part) × StandBoth reader.old position.old found.old parts }
+    ensures line { (parts : List Part) (place : Option ℕ) → StandsOn reader.old position.old parts place
+        → OnOk result (text.new.items ≡ text.old.items ++ answer_line (stored_in parts) call.now (answer_in_parts None parts place call.now)) }
+    ensures stands { (parts : List Part) (place : Option ℕ) → StandsOn reader.old position.old parts place
+        → StandsOn reader.new position.new parts (answer_in_parts None parts place call.now).position }
+    ensures both { (parts : List Part) → StandBoth reader.old position.old found.old parts
+        → StandBoth reader.new position.new found.new parts }
     ensures same { IsSame position.old position.new × IsSame found.old found.new }
     ensures seats { SameSeats reader.old reader.new }
     ensures folder { IsQuiet (F.held files.old) (F.held files.new) (F.faults files.old) (F.faults files.new) }
@@ -172,13 +173,13 @@ pub fn print_answers<F: Folder, O: Sink>(
     out: &mut O,
 ) -> Result<(), DevStop>
     requires seats { (seats_of reader.old ≡ 2) × (open_of reader.old ≡ 0) }
-    requires kept { (blocks : List IndexedBlock) × Keeps reader.old blocks }
+    requires kept { (parts : List Part) × Keeps reader.old parts }
     ensures shut { open_of reader.new ≡ 0 }
     ensures folder { IsQuiet (F.held files.old) (F.held files.new) (F.faults files.old) (F.faults files.new) }
-    ensures all { (blocks : List IndexedBlock) → Keeps reader.old blocks
-        → OnOk result (O.written out.new ≡ append_known (O.written out.old) (way_text blocks calls.now)) }
-    ensures err { (blocks : List IndexedBlock) → Keeps reader.old blocks
-        → OnErr result ((n : ℕ) × (O.written out.new ≡ append_known (O.written out.old) (take n (way_text blocks calls.now)))) }
+    ensures all { (parts : List Part) → Keeps reader.old parts
+        → OnOk result (O.written out.new ≡ append_known (O.written out.old) (way_text parts calls.now)) }
+    ensures err { (parts : List Part) → Keeps reader.old parts
+        → OnErr result ((n : ℕ) × (O.written out.new ≡ append_known (O.written out.old) (take n (way_text parts calls.now)))) }
     ensures faults { CountsFaults (result ≡ Err DevStop.Failed) (O.faults out.old) (O.faults out.new) }
 {
     match reader.cursor() {
@@ -202,14 +203,14 @@ fn print_from<F: Folder, O: Sink>(
     out: &mut O,
 ) -> Result<(), DevStop>
     requires seats { (seats_of reader.old ≡ 2) × (open_of reader.old ≡ 1) }
-    requires kept { (blocks : List IndexedBlock) × StandsOn reader.old position.old blocks None }
+    requires kept { (parts : List Part) × StandsOn reader.old position.old parts None }
     ensures belongs { Belongs reader.new position.new }
     ensures seats { open_of reader.new ≡ 1 }
     ensures folder { IsQuiet (F.held files.old) (F.held files.new) (F.faults files.old) (F.faults files.new) }
-    ensures all { (blocks : List IndexedBlock) → StandsOn reader.old position.old blocks None
-        → OnOk result (O.written out.new ≡ append_known (O.written out.old) (way_text blocks calls.now)) }
-    ensures err { (blocks : List IndexedBlock) → StandsOn reader.old position.old blocks None
-        → OnErr result ((n : ℕ) × (O.written out.new ≡ append_known (O.written out.old) (take n (way_text blocks calls.now)))) }
+    ensures all { (parts : List Part) → StandsOn reader.old position.old parts None
+        → OnOk result (O.written out.new ≡ append_known (O.written out.old) (way_text parts calls.now)) }
+    ensures err { (parts : List Part) → StandsOn reader.old position.old parts None
+        → OnErr result ((n : ℕ) × (O.written out.new ≡ append_known (O.written out.old) (take n (way_text parts calls.now)))) }
     ensures faults { CountsFaults (result ≡ Err DevStop.Failed) (O.faults out.old) (O.faults out.new) }
 {
     match reader.cursor() {
@@ -234,15 +235,15 @@ fn print_lines<F: Folder, O: Sink>(
     out: &mut O,
 ) -> Result<(), DevStop>
     requires two { AreTwo position.old found.old }
-    requires kept { (blocks : List IndexedBlock) × StandBoth reader.old position.old found.old blocks }
-    ensures both { (blocks : List IndexedBlock) × StandBoth reader.new position.new found.new blocks }
+    requires kept { (parts : List Part) × StandBoth reader.old position.old found.old parts }
+    ensures both { (parts : List Part) × StandBoth reader.new position.new found.new parts }
     ensures same { IsSame position.old position.new × IsSame found.old found.new }
     ensures seats { SameSeats reader.old reader.new }
     ensures folder { IsQuiet (F.held files.old) (F.held files.new) (F.faults files.old) (F.faults files.new) }
-    ensures all { (blocks : List IndexedBlock) → StandsOn reader.old position.old blocks None
-        → OnOk result (O.written out.new ≡ append_known (O.written out.old) (way_text blocks calls.now)) }
-    ensures err { (blocks : List IndexedBlock) → StandsOn reader.old position.old blocks None
-        → OnErr result ((n : ℕ) × (O.written out.new ≡ append_known (O.written out.old) (take n (way_text blocks calls.now)))) }
+    ensures all { (parts : List Part) → StandsOn reader.old position.old parts None
+        → OnOk result (O.written out.new ≡ append_known (O.written out.old) (way_text parts calls.now)) }
+    ensures err { (parts : List Part) → StandsOn reader.old position.old parts None
+        → OnErr result ((n : ℕ) × (O.written out.new ≡ append_known (O.written out.old) (take n (way_text parts calls.now)))) }
     ensures faults { CountsFaults (result ≡ Err DevStop.Failed) (O.faults out.old) (O.faults out.new) }
 {
     let mut text = Vec::new(alloc);

@@ -10,7 +10,7 @@ ghost use Rattle.sst_text.specs.EntryText.{lines_text};
 ghost use Rattle.sst_bbt_read.specs.Kept.{Keeps, StandsOn};
 ghost use Rattle.sst_bbt_read.specs.Positions.{Belongs, rest};
 ghost use Rattle.sst_bbt_read.specs.Seats.{SameSeats, open_of, seats_of};
-ghost use Rattle.sst_bbt_spec.specs.Way.{IndexedBlock, joined};
+ghost use Rattle.sst_bbt_spec.specs.Parts.{Part, stored_in};
 ghost use Rattle.sst_cli.specs.Answering.{IsQuiet};
 ghost use Rattle.sst_cli.specs.ScanCommand.{is_of_last, is_passed, scan_text, scanned_after};
 
@@ -74,9 +74,9 @@ impl LastUser {
 
 /// Goes to the first entry, and answers whether there is one.
 fn begin<F: Folder>(reader: &mut BbtReader, files: &mut F, position: &mut Cursor) -> bool
-    requires { (blocks : List IndexedBlock) × (place : Option ℕ) × StandsOn reader.old position.old blocks place }
-    ensures stands { (blocks : List IndexedBlock) (place : Option ℕ) → StandsOn reader.old position.old blocks place
-        → StandsOn reader.new position.new blocks (first_of (joined blocks)) × (result ≡ is_some (first_of (joined blocks))) }
+    requires { (parts : List Part) × (place : Option ℕ) × StandsOn reader.old position.old parts place }
+    ensures stands { (parts : List Part) (place : Option ℕ) → StandsOn reader.old position.old parts place
+        → StandsOn reader.new position.new parts (first_of (stored_in parts)) × (result ≡ is_some (first_of (stored_in parts))) }
     ensures seats { SameSeats reader.old reader.new }
     ensures folder { IsQuiet (F.held files.old) (F.held files.new) (F.faults files.old) (F.faults files.new) }
 {
@@ -88,9 +88,9 @@ fn begin<F: Folder>(reader: &mut BbtReader, files: &mut F, position: &mut Cursor
 
 /// Goes from an entry to the next, and answers whether there is one.
 fn go_on<F: Folder>(reader: &mut BbtReader, files: &mut F, position: &mut Cursor) -> bool
-    requires { (blocks : List IndexedBlock) × (i : ℕ) × StandsOn reader.old position.old blocks (Some i) }
-    ensures stands { (blocks : List IndexedBlock) (i : ℕ) → StandsOn reader.old position.old blocks (Some i)
-        → StandsOn reader.new position.new blocks (next_of (joined blocks) i) × (result ≡ is_some (next_of (joined blocks) i)) }
+    requires { (parts : List Part) × (i : ℕ) × StandsOn reader.old position.old parts (Some i) }
+    ensures stands { (parts : List Part) (i : ℕ) → StandsOn reader.old position.old parts (Some i)
+        → StandsOn reader.new position.new parts (next_of (stored_in parts) i) × (result ≡ is_some (next_of (stored_in parts) i)) }
     ensures lowers { rest reader.new position.new < rest reader.old position.old }
     ensures seats { SameSeats reader.old reader.new }
     ensures folder { IsQuiet (F.held files.old) (F.held files.new) (F.faults files.old) (F.faults files.new) }
@@ -143,13 +143,13 @@ pub fn print_entries<F: Folder, O: Sink>(
     out: &mut O,
 ) -> Result<(), DevStop>
     requires seats { (seats_of reader.old ≡ 1) × (open_of reader.old ≡ 0) }
-    requires kept { (blocks : List IndexedBlock) × Keeps reader.old blocks }
+    requires kept { (parts : List Part) × Keeps reader.old parts }
     ensures shut { open_of reader.new ≡ 0 }
     ensures folder { IsQuiet (F.held files.old) (F.held files.new) (F.faults files.old) (F.faults files.new) }
-    ensures all { (blocks : List IndexedBlock) → Keeps reader.old blocks
-        → OnOk result (O.written out.new ≡ append_known (O.written out.old) (scan_text snapshot blocks)) }
-    ensures err { (blocks : List IndexedBlock) → Keeps reader.old blocks
-        → OnErr result ((n : ℕ) × (O.written out.new ≡ append_known (O.written out.old) (take n (scan_text snapshot blocks)))) }
+    ensures all { (parts : List Part) → Keeps reader.old parts
+        → OnOk result (O.written out.new ≡ append_known (O.written out.old) (scan_text snapshot parts)) }
+    ensures err { (parts : List Part) → Keeps reader.old parts
+        → OnErr result ((n : ℕ) × (O.written out.new ≡ append_known (O.written out.old) (take n (scan_text snapshot parts)))) }
     ensures faults { CountsFaults (result ≡ Err DevStop.Failed) (O.faults out.old) (O.faults out.new) }
 {
     match reader.cursor() {
@@ -172,14 +172,14 @@ fn print_walk<F: Folder, O: Sink>(
     snapshot: Option<u64>,
     out: &mut O,
 ) -> Result<(), DevStop>
-    requires kept { (blocks : List IndexedBlock) × StandsOn reader.old position.old blocks None }
+    requires kept { (parts : List Part) × StandsOn reader.old position.old parts None }
     ensures belongs { Belongs reader.new position.new }
     ensures seats { SameSeats reader.old reader.new }
     ensures folder { IsQuiet (F.held files.old) (F.held files.new) (F.faults files.old) (F.faults files.new) }
-    ensures all { (blocks : List IndexedBlock) → StandsOn reader.old position.old blocks None
-        → OnOk result (O.written out.new ≡ append_known (O.written out.old) (scan_text snapshot blocks)) }
-    ensures err { (blocks : List IndexedBlock) → StandsOn reader.old position.old blocks None
-        → OnErr result ((n : ℕ) × (O.written out.new ≡ append_known (O.written out.old) (take n (scan_text snapshot blocks)))) }
+    ensures all { (parts : List Part) → StandsOn reader.old position.old parts None
+        → OnOk result (O.written out.new ≡ append_known (O.written out.old) (scan_text snapshot parts)) }
+    ensures err { (parts : List Part) → StandsOn reader.old position.old parts None
+        → OnErr result ((n : ℕ) × (O.written out.new ≡ append_known (O.written out.old) (take n (scan_text snapshot parts)))) }
     ensures faults { CountsFaults (result ≡ Err DevStop.Failed) (O.faults out.old) (O.faults out.new) }
 {
     let mut last = LastUser::new(alloc);
