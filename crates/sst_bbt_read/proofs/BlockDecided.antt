@@ -1,5 +1,5 @@
 -- At a handle stands a framed block of a form, or the block has a fault, and not both; and it has one fault.
-use Rattle.std.proofs.Common.{◌≡◌, ◌⊎◌, inl, inr, ℕ, ◌<◌, List, [], ◌∷◌, length, Result, Ok, Err, refl, sym, ap, ◌∙◌, subst, arith}
+use Rattle.std.proofs.Common.{◌≡◌, ◌⊎◌, inl, inr, ℕ, ◌<◌, List, [], ◌∷◌, length, Result, Ok, Err, refl, sym, ap, ◌∙◌, arith}
 use Rattle.sst_num.specs.declared.block_handle.Handle.{Handle}
 use Rattle.sst_block.specs.declared.row_form.RowForm.{RowForm}
 use Rattle.sst_block.specs.Block.{Row}
@@ -35,7 +35,7 @@ pub block-either : (form : RowForm) (file : List ℕ) (end : ℕ) (h : Handle)
     → ((rows : List Row) × RowsAt form file end h rows) ⊎ ((fault : BbtFault) × BlockFails form file end h fault)
 block-either form file end h =
     elim (rows_or_fault form file end h) as (λ (read : Result (List Row) BbtFault). rows_or_fault form file end h ≡ read
-        → ((rows : List Row) × RowsAt form file end h rows) ⊎ ((fault : BbtFault) × BlockFails form file end h fault)) [
+    → ((rows : List Row) × RowsAt form file end h rows) ⊎ ((fault : BbtFault) × BlockFails form file end h fault)) [
       | Ok rows ↦ λ is. inl (rows, block_at-found bbt.Frame (bbt.Block h) form file end h rows is)
       | Err fault ↦ λ is. inr (fault, read-fails form file end h fault is)
     ] refl

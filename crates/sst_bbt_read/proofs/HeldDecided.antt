@@ -1,14 +1,14 @@
 -- At a handle stand entries, or pairs of an index, or the block there has a fault, and not both.
-use Rattle.std.proofs.Common.{◌≡◌, ◌⊎◌, inl, inr, ℕ, suc, ◌<◌, Bool, List, [], ◌∷◌, length, map, refl, sym, ap, ◌∙◌, subst, arith}
+use Rattle.std.proofs.Common.{◌≡◌, ◌⊎◌, inl, inr, ℕ, suc, ◌<◌, Bool, List, [], ◌∷◌, length, sym, ap, ◌∙◌, subst, arith}
 use Rattle.std.proofs.lemmas.List.{length-map}
 use Rattle.sst_num.specs.declared.block_handle.Handle.{Handle}
 use Rattle.sst_key.specs.declared.entries.Entry.{Entry}
 use Rattle.sst_block.specs.declared.row_form.RowForm.TheVariants.{Entries, Index}
 use Rattle.sst_block.specs.Block.{Row, Spelled, Block}
 use Rattle.sst_block.specs.IndexRows.{IndexPair, SayPairs, IndexRows}
-use Rattle.sst_block.proofs.OneReading.{one-list, one-pairs, some-pairs}
+use Rattle.sst_block.proofs.OneReading.{some-pairs}
 use Rattle.sst_meta.specs.declared.index_form.IndexForm.{IndexForm}
-use Rattle.sst_meta.proofs.BlocksRead.{RowsAt, framed-once}
+use Rattle.sst_meta.proofs.BlocksRead.{RowsAt, rows-once}
 use Rattle.sst_bbt_spec.specs.IndexLeads.{HoldsEntries, SaysPairs, HoldsPairs}
 use Rattle.sst_bbt_spec.specs.Rows.{row_of, rows_of}
 use Rattle.sst_bbt_spec.proofs.EntriesOfRows.{entries-of_rows}
@@ -73,13 +73,7 @@ said-rows : (file : List ℕ) (end : ℕ) (form : IndexForm) (h : Handle) (pairs
     → RowsAt (Index form.user_key form.delta) file end h says.rows.rows
 said-rows file end form h pairs says = record { bytes = says.block; framed = says.framed; block = says.rows.block }
 
--- an index block says one list of pairs
-pub says-once : (file : List ℕ) (end : ℕ) (form : IndexForm) (h : Handle) (a b : List IndexPair) → SaysPairs file end form h a
-    → SaysPairs file end form h b → a ≡ b
-says-once file end form h a b left right =
-    let bytes = framed-once file end h left.block right.block left.framed right.framed in
-    one-pairs form.user_key form.delta right.block a b (subst (λ (l : List ℕ). IndexRows form.user_key form.delta l a) bytes left.rows) right.rows
-
+-- an index block says its pairs, or has a fault
 pub says-either : (file : List ℕ) (end : ℕ) (form : IndexForm) (h : Handle)
     → ((pairs : List IndexPair) × SaysPairs file end form h pairs) ⊎ ((fault : BbtFault) × BlockFails (Index form.user_key form.delta) file end h fault)
 says-either file end form h =
@@ -97,11 +91,12 @@ says-apart file end form h pairs fault says fails =
 pairs-held : (file : List ℕ) (end : ℕ) (form : IndexForm) (h : Handle) (rows : List Row) → RowsAt (Index form.user_key form.delta) file end h rows
     → 0 < length rows → (pairs : List IndexPair) × HoldsPairs file end form h pairs
 pairs-held file end form h rows at some =
-    let said = some-pairs form.user_key form.delta at.bytes rows at.block in
-    let many = rows-many form.user_key form.delta at.bytes said.0 said.1 in
-    let one = one-list (Index form.user_key form.delta) at.bytes said.1.rows rows said.1.block at.block in
-    let same = ap length one in
-    (said.0, record { says = record { block = at.bytes; framed = at.framed; rows = said.1 }; some = omega (arith, many, same, some) })
+    let said = rows-said file end form h rows at in
+    let says = said.1 in
+    let many = rows-many form.user_key form.delta says.block said.0 says.rows in
+    let rows_there = said-rows file end form h said.0 says in
+    let same = ap length (rows-once (Index form.user_key form.delta) file end h says.rows.rows rows at.bytes rows_there at.framed at.block) in
+    (said.0, record { says = says; some = omega (arith, many, same, some) })
 
 pub pairs-either : (file : List ℕ) (end : ℕ) (form : IndexForm) (h : Handle)
     → ((pairs : List IndexPair) × HoldsPairs file end form h pairs) ⊎ ((fault : BbtFault) × SomeBlockFails (Index form.user_key form.delta) file end h fault)

@@ -12,14 +12,15 @@ use Rattle.sst_meta.specs.declared.loading.Loaded.{Loaded}
 use Rattle.sst_meta.specs.declared.meta_fault.MetaFault.{MetaFault}
 use Rattle.sst_meta.proofs.LoadsRead.{load-complete, load-sound, load-one}
 use Rattle.sst_bbt_spec.specs.BlockBased.{Opens}
-use Rattle.sst_bbt_spec.specs.IndexLeads.{HoldsPart, LeadToBlocks, SaysPairs, LeadsWithin, LeadToParts}
+use Rattle.sst_bbt_spec.specs.IndexLeads.{LeadToBlocks, SaysPairs, LeadsWithin, LeadToParts}
 use Rattle.sst_bbt_spec.specs.Parts.{Part, separator_of}
 use Rattle.sst_bbt_spec.specs.Way.{IndexedBlock}
+use Rattle.sst_bbt_spec.proofs.PartsLead.{says-one}
 use Rattle.sst_bbt_read.specs.OpeningFaults.{BlocksFail, WithinFails, PartsFail, TreeFails, IndexFails, FailsToOpen}
 use Rattle.sst_bbt_read.specs.declared.bbt_fault.BbtFault.{BbtFault}
 use Rattle.sst_bbt_read.specs.declared.bbt_fault.BbtFault.TheVariants as bbt
 use Rattle.sst_bbt_read.proofs.BlockDecided.{block-one, some-one}
-use Rattle.sst_bbt_read.proofs.HeldDecided.{entries-either, entries-apart, says-once, says-either, says-apart, pairs-either, pairs-apart}
+use Rattle.sst_bbt_read.proofs.HeldDecided.{entries-either, entries-apart, says-either, says-apart, pairs-either, pairs-apart}
 
 -- ---- the data blocks of a part
 
@@ -71,7 +72,7 @@ within-apart : (parted : Bool) (file : List ℕ) (end : ℕ) (form : IndexForm) 
 within-apart false file end form pair blocks fault lead fails = blocks-apart file end form.user_key (pair ∷ []) blocks fault lead fails
 within-apart true file end form pair blocks fault part (inl bad) = pairs-apart file end form pair.handle part.pairs fault part.holds bad
 within-apart true file end form pair blocks fault part (inr later) =
-    let same = says-once file end form pair.handle later.0 part.pairs later.1.says part.holds.says in
+    let same = says-one file end form pair.handle later.0 part.pairs later.1.says part.holds.says in
     blocks-apart file end form.user_key part.pairs blocks fault part.lead (subst (λ (all : List IndexPair). BlocksFail file end all fault) same later.2)
 
 within-one : (parted : Bool) (file : List ℕ) (end : ℕ) (form : IndexForm) (pair : IndexPair) (a b : BbtFault) → WithinFails parted file end form pair a
@@ -81,7 +82,7 @@ within-one true file end form pair a b (inl left) (inl right) = some-one (Index 
 within-one true file end form pair a b (inl left) (inr right) = absurd (pairs-apart file end form pair.handle right.0 a right.1 left)
 within-one true file end form pair a b (inr left) (inl right) = absurd (pairs-apart file end form pair.handle left.0 b left.1 right)
 within-one true file end form pair a b (inr left) (inr right) =
-    let same = says-once file end form pair.handle left.0 right.0 left.1.says right.1.says in
+    let same = says-one file end form pair.handle left.0 right.0 left.1.says right.1.says in
     blocks-one file end right.0 a b (subst (λ (all : List IndexPair). BlocksFail file end all a) same left.2) right.2
 
 -- ---- the parts
@@ -138,7 +139,7 @@ tree-either file end form h =
 tree-apart : (file : List ℕ) (end : ℕ) (form : IndexForm) (h : Handle) (fault : BbtFault) → Tree file end form h → TreeFails file end form h fault → ⊥
 tree-apart file end form h fault tree (inl bad) = says-apart file end form h tree.pairs fault tree.top bad
 tree-apart file end form h fault tree (inr later) =
-    let same = says-once file end form h later.0 tree.pairs later.1 tree.top in
+    let same = says-one file end form h later.0 tree.pairs later.1 tree.top in
     parts-apart file end form tree.pairs tree.parts fault tree.lead (subst (λ (all : List IndexPair). PartsFail file end form all fault) same later.2)
 
 tree-one : (file : List ℕ) (end : ℕ) (form : IndexForm) (h : Handle) (a b : BbtFault) → TreeFails file end form h a → TreeFails file end form h b → a ≡ b
@@ -146,7 +147,7 @@ tree-one file end form h a b (inl left) (inl right) = block-one (Index form.user
 tree-one file end form h a b (inl left) (inr right) = absurd (says-apart file end form h right.0 a right.1 left)
 tree-one file end form h a b (inr left) (inl right) = absurd (says-apart file end form h left.0 b left.1 right)
 tree-one file end form h a b (inr left) (inr right) =
-    let same = says-once file end form h left.0 right.0 left.1 right.1 in
+    let same = says-one file end form h left.0 right.0 left.1 right.1 in
     parts-one file end form right.0 a b (subst (λ (all : List IndexPair). PartsFail file end form all a) same left.2) right.2
 
 -- ---- the file
@@ -165,7 +166,7 @@ no-loading file loaded wrong meta e = cc (load-complete file loaded meta, e)
 pub opens-or_fails : (file : List ℕ) → ((parts : List Part) × Opens file parts) ⊎ ((fault : BbtFault) × FailsToOpen file fault)
 opens-or_fails file =
     elim (load_read file) as (λ (read : Result Loaded MetaFault). load_read file ≡ read
-        → ((parts : List Part) × Opens file parts) ⊎ ((fault : BbtFault) × FailsToOpen file fault)) [
+    → ((parts : List Part) × Opens file parts) ⊎ ((fault : BbtFault) × FailsToOpen file fault)) [
       | Err wrong ↦ λ is. inr (bbt.Meta wrong, inl (wrong, refl, is))
       | Ok loaded ↦ λ is.
           let meta = load-sound file loaded is in
