@@ -1,5 +1,6 @@
 pub mod Separators
 pub mod IndexBlock
+pub mod Behind
 pub mod Top
 pub mod Ends
 pub mod IndexBytes

@@ -1,5 +1,5 @@
 //! Laws: where a separator stands, and what an index block says.
-ghost use Rattle.std.specs.Prelude.{◌≡◌, ◌≢◌, ℕ, ◌^◌, ◌<◌, ◌≤◌, false, List, length, All};
+ghost use Rattle.std.specs.Prelude.{◌≡◌, ◌≢◌, ℕ, ◌^◌, ◌<◌, ◌≤◌, true, List, length, All};
 ghost use Rattle.std.specs.List.{flat_map};
 ghost use Rattle.std.specs.Ordering.{nat_cmp};
 ghost use Rattle.std.specs.Cmp.Lexicographic.{slice_cmp};
@@ -8,6 +8,7 @@ ghost use Rattle.sst_key.specs.InternalKey.{user_of, internal_cmp};
 ghost use Rattle.sst_block.specs.Block.{AreOrdered};
 ghost use Rattle.sst_block.specs.IndexRows.{IndexPair, IndexRows};
 ghost use Rattle.sst_index.specs.declared.flags.IndexFlags.{IndexFlags};
+ghost use Rattle.sst_index.specs.Behind.{AreBehind};
 ghost use Rattle.sst_index.specs.Ends.{AreEnds, BlockEnd, flags_of, pairs_of};
 ghost use Rattle.sst_index.specs.Index.{AreOptions};
 ghost use Rattle.sst_index.specs.IndexBytes.{IndexOptions, parts_of, top_block, top_pairs};
@@ -45,10 +46,10 @@ pub fn a_separator_ends()
 /// The index block that is made of some pairs says these pairs.
 ///
 /// It holds of pairs whose separators are in the order of the form, of any restart interval but 0, and of blocks of at most
-/// 2^29 bytes. For now it is said of handles that stand whole.
+/// 2^29 bytes. Where handles are differences, each block to which a pair leads begins behind the one before.
 /// RocksDB: `IndexValue::EncodeTo` and `DecodeFrom` in table/format.cc.
 pub fn an_index_block_says_its_pairs()
-    ensures { (flags : IndexFlags) (interval : ℕ) (pairs : List IndexPair) → flags.delta ≡ false → 0 < interval
+    ensures { (flags : IndexFlags) (interval : ℕ) (pairs : List IndexPair) → (flags.delta ≡ true → AreBehind pairs) → 0 < interval
         → All (IsPair flags.user_key) pairs → AreOrdered (form_of flags) (rows_of_pairs flags interval pairs)
         → length (index_block flags interval pairs) ≤ 2 ^ 29
         → IndexRows flags.user_key flags.delta (index_block flags interval pairs) pairs }
@@ -58,7 +59,7 @@ pub fn an_index_block_says_its_pairs()
 ///
 /// `partitions`: each partition says its part of the pairs. `top`: the top block says all of them where there are no
 /// partitions, and else the last separator of each partition, and where that stands, one behind the other from `base` on.
-/// It holds of data blocks that a builder takes, and of versions of the format in which handles stand whole.
+/// It holds of data blocks that a builder takes, in each version of the format that it takes.
 /// RocksDB: `PartitionedIndexBuilder::Finish` in table/block_based/index_builder.cc.
 pub fn an_index_says_its_pairs()
     ensures partitions { (o : IndexOptions) (blocks : List BlockEnd) → AreOptions o → AreEnds blocks
