@@ -1,12 +1,13 @@
 pub mod Added
+pub mod BlockEnds
 pub mod CutSteps
 pub mod DataBlocks
+pub mod DataRoom
 pub mod Ending
 pub mod Entering
 pub mod Finishing
 pub mod FullBlocks
-pub mod IndexRoom
-pub mod IndexRows
+pub mod IndexSize
 pub mod ListParts
 pub mod OneCut
 pub mod PropertyRows
