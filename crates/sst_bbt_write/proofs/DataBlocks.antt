@@ -12,7 +12,7 @@ use Rattle.sst_bbt_spec.specs.IndexLeads.{HoldsEntries, LeadToBlocks}
 use Rattle.sst_bbt_spec.specs.Rows.{HasSeq, rows_of}
 use Rattle.sst_bbt_write.specs.Cut.{data_block, entries_in}
 use Rattle.sst_bbt_write.specs.Written.{MayBeChosen, IsInLimits, Fits, stored_length, data_part, ends_from}
-use Rattle.sst_bbt_write.proofs.DataRoom.{data-le, length-data_part}
+use Rattle.sst_bbt_write.proofs.DataRoom.{data_block-short, length-data_part}
 use Rattle.sst_bbt_write.proofs.FullBlocks.{HaveEntries}
 use Rattle.sst_bbt_write.proofs.IndexedBlocks.{indexed}
 use Rattle.sst_bbt_write.proofs.ListParts.{fits-front, fits-back}
@@ -23,7 +23,7 @@ use Rattle.sst_bbt_write.specs.declared.bbt_options.BbtOptions.{BbtOptions}
 data_block-is : (options : BbtOptions) (entries : List Entry) → MayBeChosen options → Fits entries → Block Entries (data_block options entries) (rows_of entries)
 data_block-is options entries chosen fits =
     block_of_is_block Entries options.restart (rows_of entries) (let least = chosen.restart_least in omega (arith, least)) (rows_of-forms entries fits.limits)
-    (rows_of-ordered entries fits.limits fits.ordered) tt (omega (arith, data-le options entries, fits.light))
+    (rows_of-ordered entries fits.limits fits.ordered) tt (omega (arith, data_block-short options entries fits))
 
 -- a data block that stands in a file
 block-held : (options : BbtOptions) (file front rest : List ℕ) (at end : ℕ) (block : List Entry) → MayBeChosen options → 0 < length block → Fits block
@@ -32,7 +32,7 @@ block-held : (options : BbtOptions) (file front rest : List ℕ) (at end : ℕ) 
 block-held options file front rest at end block chosen some fits is place within =
     record {
       block = data_block options block;
-      framed = framed-at file front (data_block options block) rest at end is place (omega (arith, data-le options block, fits.light)) (omega (arith, within));
+      framed = framed-at file front (data_block options block) rest at end is place (omega (arith, data_block-short options block fits)) (omega (arith, within));
       rows = data_block-is options block chosen fits;
       some = some;
       seqs = All-weaker IsInLimits HasSeq (λ x within. within.seq) block fits.limits;

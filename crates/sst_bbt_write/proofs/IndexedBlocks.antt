@@ -14,7 +14,8 @@ use Rattle.sst_bbt_spec.specs.Runs.{AreSeparated, IsAfterAll}
 use Rattle.sst_bbt_spec.specs.Way.{IndexedBlock, joined}
 use Rattle.sst_bbt_write.specs.Cut.{data_block, entries_in}
 use Rattle.sst_bbt_write.specs.Written.{Fits, ends_from, next_key, stored_length}
-use Rattle.sst_bbt_write.proofs.BlockKeys.{begins-after}
+use Rattle.sst_bbt_write.proofs.BlockEnds.{begins-after}
+use Rattle.sst_bbt_write.proofs.CutParts.{HaveSome}
 use Rattle.sst_bbt_write.proofs.FullBlocks.{HaveEntries}
 use Rattle.sst_bbt_write.proofs.KeySeparators.{separator_for, upto-separator, after-separator}
 use Rattle.sst_bbt_write.proofs.ListParts.{last_entry, last_key-entry, fits-back}
@@ -71,3 +72,8 @@ indexed-separated options user_key at ((e ∷ block) ∷ (f ∷ next) ∷ rest) 
       after-separator user_key last f (begins-after e block f (next ++ entries_in rest) fits) (λ is. unlike (user_of last) (user_of (key_of f)) (none is).0),
       indexed-separated options user_key place ((f ∷ next) ∷ rest) some.1 (fits-back (e ∷ block) ((f ∷ next) ++ entries_in rest) fits) (λ is. (none is).1),
     )
+
+-- each has an entry
+pub indexed-some : (user_key : Bool) (blocks : List (List Entry)) → HaveEntries blocks → HaveSome (indexed user_key blocks)
+indexed-some user_key [] some = tt
+indexed-some user_key (block ∷ rest) some = (some.0, indexed-some user_key rest some.1)
