@@ -1,5 +1,5 @@
 -- The properties that are written tell the form of the index.
-use Rattle.std.proofs.Common.{◌≡◌, ℕ, zero, suc, Bool, true, false, not, bytes_eq, Some, List, refl}
+use Rattle.std.proofs.Common.{◌≡◌, ℕ, zero, suc, Bool, true, false, not, bytes_eq, Some, refl}
 use Rattle.sst_num.specs.Spelling.{fixed, varint}
 use Rattle.sst_index.specs.declared.flags.IndexFlags.{IndexFlags}
 use Rattle.sst_meta.specs.IndexForms.{index_form}

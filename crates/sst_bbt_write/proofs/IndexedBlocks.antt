@@ -1,16 +1,15 @@
 -- The data blocks of a list with their separators, which separate them.
-use Rattle.std.proofs.Common.{◌≡◌, ◌≢◌, ℕ, ◌+◌, ◌<◌, Bool, true, false, ◌&&◌, ◌||◌, not, nat_le, bytes_eq, Option, None, Some, List, [], ◌∷◌, ◌++◌, length, All, map, refl, sym, ap, ◌∙◌, subst, arith}
+use Rattle.std.proofs.Common.{◌≡◌, ◌≢◌, ℕ, ◌+◌, Bool, true, false, ◌&&◌, ◌||◌, not, nat_le, bytes_eq, Option, None, Some, List, [], ◌∷◌, ◌++◌, refl, sym, ap, subst, arith}
 use Rattle.std.specs.List.{list_any}
-use Rattle.std.proofs.lemmas.List.{append-nil}
 use Rattle.std.proofs.lemmas.Slice.Eq.{bytes_eq-Decides}
-use Rattle.std.specs.declared.cmp.Ordering.TheVariants.{Less, Greater}
+use Rattle.std.specs.declared.cmp.Ordering.TheVariants.{Greater}
 use Rattle.sst_key.specs.declared.entries.Entry.{Entry}
 use Rattle.sst_key.specs.Entry.{key_of}
 use Rattle.sst_key.specs.InternalKey.{user_of, internal_cmp}
 use Rattle.sst_block.specs.Builder.{last_key}
 use Rattle.sst_index.specs.Ends.{BlockEnd, shares_user, flags_of}
 use Rattle.sst_bbt_spec.specs.Rows.{rows_of}
-use Rattle.sst_bbt_spec.specs.Runs.{AreSeparated, IsAfterAll}
+use Rattle.sst_bbt_spec.specs.Runs.{AreSeparated}
 use Rattle.sst_bbt_spec.specs.Way.{IndexedBlock, joined}
 use Rattle.sst_bbt_write.specs.Cut.{data_block, entries_in}
 use Rattle.sst_bbt_write.specs.Written.{Fits, ends_from, next_key, stored_length}

@@ -10,6 +10,7 @@ pub mod Finishing
 pub mod FormTold
 pub mod FullBlocks
 pub mod IndexSize
+pub mod IndexStands
 pub mod IndexedBlocks
 pub mod KeySeparators
 pub mod ListParts
@@ -18,3 +19,4 @@ pub mod PartsLead
 pub mod PropertyRows
 pub mod Rows
 pub mod Stands
+pub mod WrittenParts

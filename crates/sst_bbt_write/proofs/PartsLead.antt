@@ -1,5 +1,5 @@
 -- The rows of the top block lead to the parts of the index, where the pairs of all parts lead to the data blocks.
-use Rattle.std.proofs.Common.{◌≡◌, ℕ, zero, suc, ◌<◌, ◌≤◌, Bool, true, false, List, [], ◌∷◌, length, take, drop, map, refl, ap, ◌∙◌, sym, subst, arith}
+use Rattle.std.proofs.Common.{◌≡◌, ℕ, zero, suc, ◌<◌, Bool, true, false, List, [], ◌∷◌, length, take, drop, map, refl, ap, ◌∙◌, sym, subst, arith}
 use Rattle.sst_block.specs.IndexRows.{IndexPair}
 use Rattle.sst_index.specs.declared.flags.IndexFlags.{IndexFlags}
 use Rattle.sst_index.specs.IndexBlock.{index_block}
@@ -8,10 +8,10 @@ use Rattle.sst_index.specs.IndexBytes.{in_parts, parts_of, top_pairs}
 use Rattle.sst_index.specs.Partitions.{LeadsToPartition, LeadToPartitions}
 use Rattle.sst_meta.specs.declared.index_form.IndexForm.{IndexForm}
 use Rattle.sst_bbt_spec.specs.IndexLeads.{HoldsPart, LeadToBlocks, LeadToParts}
-use Rattle.sst_bbt_spec.specs.Parts.{Part, alone, separator_of}
+use Rattle.sst_bbt_spec.specs.Parts.{alone, separator_of}
 use Rattle.sst_bbt_spec.specs.PartRuns.{last_separator}
 use Rattle.sst_bbt_spec.specs.Way.{IndexedBlock}
-use Rattle.sst_bbt_write.proofs.CutParts.{part_of, parts_in, parts_for}
+use Rattle.sst_bbt_write.proofs.CutParts.{parts_in, parts_for}
 
 -- the form of an index with these flags, whole or in parts of so many rows
 abbrev pub is_parted : ℕ → Bool
