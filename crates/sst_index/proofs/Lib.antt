@@ -13,3 +13,4 @@ pub mod Kept
 pub mod TopKeys
 pub mod Fronts
 pub mod Says
+pub mod Stand

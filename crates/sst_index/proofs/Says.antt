@@ -49,7 +49,7 @@ pub parts-parts : (k : ℕ) (pairs : List IndexPair) → 0 < k → All (λ (part
 parts-parts k pairs some = are-parts (length pairs) k pairs (omega arith)
 
 -- pairs that stand, and the block of these
-standing-take : (u : Bool) (n : ℕ) (pairs : List IndexPair) → Standing u pairs → Standing u (take n pairs)
+pub standing-take : (u : Bool) (n : ℕ) (pairs : List IndexPair) → Standing u pairs → Standing u (take n pairs)
 standing-take u n pairs s =
     record {
       each = All-take (IsPair u) n pairs s.each;
@@ -58,7 +58,7 @@ standing-take u n pairs s =
       room = omega (arith, sum_by-take-le pair_room pairs n, s.room);
     }
 
-standing-drop : (u : Bool) (n : ℕ) (pairs : List IndexPair) → Standing u pairs → Standing u (drop n pairs)
+pub standing-drop : (u : Bool) (n : ℕ) (pairs : List IndexPair) → Standing u pairs → Standing u (drop n pairs)
 standing-drop u n pairs s =
     record {
       each = All-drop (IsPair u) n pairs s.each;
@@ -67,7 +67,7 @@ standing-drop u n pairs s =
       room = omega (arith, drop-room pairs n, s.room);
     }
 
-standing-says : (flags : IndexFlags) (interval : ℕ) (pairs : List IndexPair) → 0 < interval → Standing flags.user_key pairs
+pub standing-says : (flags : IndexFlags) (interval : ℕ) (pairs : List IndexPair) → 0 < interval → Standing flags.user_key pairs
     → IndexRows flags.user_key flags.delta (index_block flags interval pairs) pairs
 standing-says flags interval pairs positive s =
     index_block_says flags interval pairs (λ _. s.behind) positive s.each

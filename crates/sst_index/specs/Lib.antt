@@ -6,3 +6,4 @@ pub mod Ends
 pub mod IndexBytes
 pub mod Index
 pub mod Parted
+pub mod Partitions

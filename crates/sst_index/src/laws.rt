@@ -1,5 +1,5 @@
 //! Laws: where a separator stands, and what an index block says.
-ghost use Rattle.std.specs.Prelude.{◌≡◌, ◌≢◌, ℕ, ◌^◌, ◌<◌, ◌≤◌, true, List, length, All};
+ghost use Rattle.std.specs.Prelude.{◌≡◌, ◌≢◌, ℕ, ◌+◌, ◌^◌, ◌<◌, ◌≤◌, true, List, ◌++◌, length, All};
 ghost use Rattle.std.specs.List.{flat_map};
 ghost use Rattle.std.specs.Ordering.{nat_cmp};
 ghost use Rattle.std.specs.Cmp.Lexicographic.{slice_cmp};
@@ -7,12 +7,14 @@ ghost use Rattle.std.specs.declared.cmp.Ordering.TheVariants.{Less, Greater};
 ghost use Rattle.sst_key.specs.InternalKey.{user_of, internal_cmp};
 ghost use Rattle.sst_block.specs.Block.{AreOrdered};
 ghost use Rattle.sst_block.specs.IndexRows.{IndexPair, IndexRows};
+ghost use Rattle.sst_device.specs.Framed.{Framed};
 ghost use Rattle.sst_index.specs.declared.flags.IndexFlags.{IndexFlags};
 ghost use Rattle.sst_index.specs.Behind.{AreBehind};
 ghost use Rattle.sst_index.specs.Ends.{AreEnds, BlockEnd, flags_of, pairs_of};
 ghost use Rattle.sst_index.specs.Index.{AreOptions};
-ghost use Rattle.sst_index.specs.IndexBytes.{IndexOptions, parts_of, top_block, top_pairs};
+ghost use Rattle.sst_index.specs.IndexBytes.{IndexOptions, index_bytes, parts_of, top_block, top_handle, top_pairs};
 ghost use Rattle.sst_index.specs.IndexBlock.{form_of, index_block, rows_of_pairs};
+ghost use Rattle.sst_index.specs.Partitions.{LeadToPartitions};
 ghost use Rattle.sst_index.specs.Separators.{separator_between, separator_after};
 ghost use Rattle.sst_index.specs.Top.{IsPair};
 
@@ -70,6 +72,26 @@ pub fn an_index_says_its_pairs()
         → IndexRows (flags_of o.version blocks).user_key (flags_of o.version blocks).delta
         (top_block (flags_of o.version blocks) o.interval o.parts base (pairs_of o.version blocks))
         (top_pairs (flags_of o.version blocks) o.interval o.parts base (pairs_of o.version blocks)) }
+{}
+
+/// The blocks of an index stand in a file at their handles, whatever stands before and behind it.
+///
+/// `partitions`: where there are partitions, each row of the top block leads to its own: this one's last separator is that of
+/// the row, it stands at the handle of the row, with its trailer, and says its part of the pairs, of which there is one at
+/// least. `top`: the top block stands at its handle. `end` is the file's length without its footer, or any number that the
+/// index doesn't pass.
+/// RocksDB: `PartitionedIndexBuilder::Finish` in table/block_based/index_builder.cc, and
+/// `BlockBasedTableBuilder::WriteIndexBlock` in table/block_based/block_based_table_builder.cc.
+pub fn an_index_stands_in_a_file()
+    ensures partitions { (o : IndexOptions) (front rest : List ℕ) (end : ℕ) (blocks : List BlockEnd) → AreOptions o → AreEnds blocks → 0 < o.parts
+        → length front + length (index_bytes o (length front) blocks) ≤ end
+        → LeadToPartitions (front ++ (index_bytes o (length front) blocks ++ rest)) end (flags_of o.version blocks) o.interval
+        (top_pairs (flags_of o.version blocks) o.interval o.parts (length front) (pairs_of o.version blocks))
+        (parts_of o.parts (pairs_of o.version blocks)) }
+    ensures top { (o : IndexOptions) (front rest : List ℕ) (end : ℕ) (blocks : List BlockEnd) → AreEnds blocks
+        → length front + length (index_bytes o (length front) blocks) ≤ end
+        → Framed (front ++ (index_bytes o (length front) blocks ++ rest)) end (top_handle o (length front) blocks)
+        (top_block (flags_of o.version blocks) o.interval o.parts (length front) (pairs_of o.version blocks)) }
 {}
 
 /// The partitions have all pairs, in their order.

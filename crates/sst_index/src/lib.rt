@@ -88,7 +88,8 @@
 //! - [`IndexBuilder`] takes where the data blocks end, and appends the bytes of their index (`index_bytes`,
 //!   specs/IndexBytes.antt). It tells the flags of the index, and the keys of its top block. It keeps each separator once.
 //! - Each partition says its part of the pairs, and the top block says where each partition stands, by its last separator
-//!   ([`an_index_says_its_pairs`]); the partitions have all pairs ([`partitions_are_the_pairs`]).
+//!   ([`an_index_says_its_pairs`]); the partitions have all pairs ([`partitions_are_the_pairs`]). In a file each stands at its
+//!   handle ([`an_index_stands_in_a_file`]).
 //! - Where memory runs out a call answers so, and so does each later call of that builder that can fail.
 //!
 //! RocksDB: table/block_based/index_builder.h and index_builder.cc, and util/comparator.cc. RocksDB shortens separators in more
@@ -106,7 +107,7 @@ pub use builder::IndexBuilder;
 pub use flags::IndexFlags;
 pub use laws::{
     a_separator_ends, a_separator_separates, an_index_block_says_its_pairs,
-    an_index_says_its_pairs, partitions_are_the_pairs,
+    an_index_says_its_pairs, an_index_stands_in_a_file, partitions_are_the_pairs,
 };
 pub use separators::put_separator;
 pub use top::TopBuilder;
