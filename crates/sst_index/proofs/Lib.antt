@@ -14,3 +14,4 @@ pub mod TopKeys
 pub mod Fronts
 pub mod Says
 pub mod Stand
+pub mod PairWalks

@@ -7,3 +7,4 @@ pub mod IndexBytes
 pub mod Index
 pub mod Parted
 pub mod Partitions
+pub mod Walk

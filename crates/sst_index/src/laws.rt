@@ -1,5 +1,5 @@
 //! Laws: where a separator stands, and what an index block says.
-ghost use Rattle.std.specs.Prelude.{◌≡◌, ◌≢◌, ℕ, ◌+◌, ◌^◌, ◌<◌, ◌≤◌, true, List, ◌++◌, length, All};
+ghost use Rattle.std.specs.Prelude.{◌≡◌, ◌≢◌, ℕ, ◌+◌, ◌^◌, ◌<◌, ◌≤◌, true, false, List, ◌++◌, length, slice_get, All, Some};
 ghost use Rattle.std.specs.List.{flat_map};
 ghost use Rattle.std.specs.Ordering.{nat_cmp};
 ghost use Rattle.std.specs.Cmp.Lexicographic.{slice_cmp};
@@ -17,6 +17,7 @@ ghost use Rattle.sst_index.specs.IndexBlock.{form_of, index_block, rows_of_pairs
 ghost use Rattle.sst_index.specs.Partitions.{LeadToPartitions};
 ghost use Rattle.sst_index.specs.Separators.{separator_between, separator_after};
 ghost use Rattle.sst_index.specs.Top.{IsPair};
+ghost use Rattle.sst_index.specs.Walk.{is_pair_before, pairs_before};
 
 /// A separator stands between the last key of its block and the first key of the next.
 ///
@@ -92,6 +93,19 @@ pub fn an_index_stands_in_a_file()
         → length front + length (index_bytes o (length front) blocks) ≤ end
         → Framed (front ++ (index_bytes o (length front) blocks ++ rest)) end (top_handle o (length front) blocks)
         (top_block (flags_of o.version blocks) o.interval o.parts (length front) (pairs_of o.version blocks)) }
+{}
+
+/// The pairs before a target come first in an index block, so a seek goes to the first pair that isn't before it.
+///
+/// The target is a user key and a tag. `before`: a pair whose separator is before it has a number below that of all such
+/// pairs. `not`: each other pair doesn't. RocksDB: `IndexBlockIter::SeekImpl` in table/block_based/block.cc.
+pub fn a_seek_passes_the_pairs_before()
+    ensures before { (flags : IndexFlags) (bytes : List ℕ) (pairs : List IndexPair) (user : List ℕ) (tag i : ℕ) (pair : IndexPair)
+        → IndexRows flags.user_key flags.delta bytes pairs → tag < 2 ^ 64 → slice_get pairs i ≡ Some pair
+        → is_pair_before flags.user_key user tag pair ≡ true → i < pairs_before flags.user_key user tag pairs }
+    ensures not { (flags : IndexFlags) (bytes : List ℕ) (pairs : List IndexPair) (user : List ℕ) (tag i : ℕ) (pair : IndexPair)
+        → IndexRows flags.user_key flags.delta bytes pairs → tag < 2 ^ 64 → slice_get pairs i ≡ Some pair
+        → is_pair_before flags.user_key user tag pair ≡ false → pairs_before flags.user_key user tag pairs ≤ i }
 {}
 
 /// The partitions have all pairs, in their order.

@@ -90,6 +90,9 @@
 //! - Each partition says its part of the pairs, and the top block says where each partition stands, by its last separator
 //!   ([`an_index_says_its_pairs`]); the partitions have all pairs ([`partitions_are_the_pairs`]). In a file each stands at its
 //!   handle ([`an_index_stands_in_a_file`]).
+//! - [`IndexIter`] goes over the pairs of an index block that was checked: each move is one move on their list (`WalksPairs`,
+//!   specs/Walk.antt), and a seek goes to the first pair whose separator isn't before the target
+//!   ([`a_seek_passes_the_pairs_before`]). It takes no memory.
 //! - Where memory runs out a call answers so, and so does each later call of that builder that can fail.
 //!
 //! RocksDB: table/block_based/index_builder.h and index_builder.cc, and util/comparator.cc. RocksDB shortens separators in more
@@ -101,13 +104,16 @@ mod flags;
 mod laws;
 mod separators;
 mod top;
+mod walk;
 mod writing;
 
 pub use builder::IndexBuilder;
 pub use flags::IndexFlags;
 pub use laws::{
-    a_separator_ends, a_separator_separates, an_index_block_says_its_pairs,
-    an_index_says_its_pairs, an_index_stands_in_a_file, partitions_are_the_pairs,
+    a_seek_passes_the_pairs_before, a_separator_ends, a_separator_separates,
+    an_index_block_says_its_pairs, an_index_says_its_pairs, an_index_stands_in_a_file,
+    partitions_are_the_pairs,
 };
 pub use separators::put_separator;
 pub use top::TopBuilder;
+pub use walk::IndexIter;
