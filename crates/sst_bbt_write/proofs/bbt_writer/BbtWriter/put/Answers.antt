@@ -3,7 +3,8 @@ use Rattle.sst_key.specs.Entry.{entry_of, internal_key}
 use Rattle.sst_bbt_write.specs.Keeps.{with_room}
 use Rattle.sst_bbt_write.specs.Cut.{cut_of}
 use Rattle.sst_bbt_write.proofs.Added.{last_has_tag, Fits-next}
-use Rattle.sst_bbt_write.proofs.Finishing.{after-added, awaits-next, keeps-other, room-of}
+use Rattle.sst_bbt_write.proofs.Keeping.{after-added, keeps-other, room-of}
+use Rattle.sst_bbt_write.proofs.MakingRoom.{awaits-next}
 use Rattle.sst_bbt_write.proofs.bbt_writer.BbtWriter.put.Goals as goal
 
 pub fault_of-requires-clause-last : goal.fault_of-requires-clause-last
