@@ -11,7 +11,7 @@ use Rattle.sst_bbt_write.specs.declared.bbt_options.BbtOptions.{BbtOptions}
 use Rattle.sst_bbt_write.specs.After.{After}
 use Rattle.sst_bbt_write.specs.Cut.{Blocks, cut_of}
 use Rattle.sst_bbt_write.specs.Keeps.{Ends, HasEntry, Keeps, with_room, with_entry}
-use Rattle.sst_bbt_write.specs.Written.{Fits, MayBeChosen, index_options}
+use Rattle.sst_bbt_write.specs.Written.{Fits, MayBeChosen, ends_from, index_options, next_key}
 use Rattle.sst_bbt_write.proofs.CutSteps.{cut_of-steps}
 use Rattle.sst_bbt_write.proofs.Rows.{Fits-nil}
 
@@ -37,7 +37,46 @@ after-added w options entries e bytes same kept =
 pub room-of : (w : BbtWriter) (options : BbtOptions) (cut : Blocks) → w.options ≡ options → with_room w.options cut ≡ with_room options cut
 room-of w options cut same = ap (λ (o : BbtOptions). with_room o cut) same
 
--- what a writer keeps it keeps with another key at hand
+-- what a writer keeps it keeps with another key at hand, told of another entry behind the list
+pub keeps-with : (w new : BbtWriter) (next told : Option (List ℕ)) (cut : Blocks) (entries : List Entry) (bytes : List ℕ) → Keeps w next cut entries bytes
+    → index.Holds w.index (index_options w.options) (ends_from w.options 0 cut.ended (next_key (cut.current ∷ []) told))
+    → new ≡ record {
+      alloc = w.alloc;
+      options = w.options;
+      block = w.block;
+      rows = w.rows;
+      index = w.index;
+      blocks = w.blocks;
+      data_size = w.data_size;
+      last = w.last;
+      key = new.key;
+      count = w.count;
+      keys = w.keys;
+      values = w.values;
+      weight = w.weight;
+      failed = w.failed;
+    } → Keeps new told cut entries bytes
+keeps-with w new next told cut entries bytes kept holds same =
+    subst (λ (b : BbtWriter). Keeps b told cut entries bytes) (sym same)
+    (record {
+      sound = kept.sound;
+      chosen = kept.chosen;
+      joined = kept.joined;
+      filled = kept.filled;
+      block = kept.block;
+      rows = kept.rows;
+      index = holds;
+      blocks = kept.blocks;
+      data_size = kept.data_size;
+      appended = kept.appended;
+      last = kept.last;
+      count = kept.count;
+      keys = kept.keys;
+      values = kept.values;
+      weighs = kept.weighs;
+      fits = kept.fits;
+    })
+
 pub keeps-other : (w new : BbtWriter) (next : Option (List ℕ)) (cut : Blocks) (entries : List Entry) (bytes : List ℕ) → Keeps w next cut entries bytes
     → new ≡ record {
       alloc = w.alloc;
@@ -55,26 +94,7 @@ pub keeps-other : (w new : BbtWriter) (next : Option (List ℕ)) (cut : Blocks) 
       weight = w.weight;
       failed = w.failed;
     } → Keeps new next cut entries bytes
-keeps-other w new next cut entries bytes kept same =
-    subst (λ (b : BbtWriter). Keeps b next cut entries bytes) (sym same)
-    (record {
-      sound = kept.sound;
-      chosen = kept.chosen;
-      joined = kept.joined;
-      filled = kept.filled;
-      block = kept.block;
-      rows = kept.rows;
-      index = kept.index;
-      blocks = kept.blocks;
-      data_size = kept.data_size;
-      appended = kept.appended;
-      last = kept.last;
-      count = kept.count;
-      keys = kept.keys;
-      values = kept.values;
-      weighs = kept.weighs;
-      fits = kept.fits;
-    })
+keeps-other w new next cut entries bytes kept same = keeps-with w new next next cut entries bytes kept kept.index same
 
 -- a writer keeps the list of no entry
 pub after-none : (w : BbtWriter) (options : BbtOptions) → w.options ≡ options → MayBeChosen w.options → w.failed ≡ false → Holds w.block Entries w.options.restart [] → w.rows ≡ 0 → index.Holds w.index (index_options w.options) []

@@ -7,16 +7,16 @@ use Rattle.sst_index.specs.Ends.{BlockEnd}
 use Rattle.sst_index.specs.Index as index
 use Rattle.sst_bbt_write.specs.declared.bbt_writer.BbtWriter.{BbtWriter}
 use Rattle.sst_bbt_write.specs.declared.bbt_options.BbtOptions.{BbtOptions}
-use Rattle.sst_bbt_write.specs.After.{After}
 use Rattle.sst_bbt_write.specs.Cut.{Blocks, cut_of, is_full}
 use Rattle.sst_bbt_write.specs.Keeps.{Awaits, Ends, Keeps, ended_now, with_room}
 use Rattle.sst_bbt_write.specs.Written.{Fits, ends_from, index_options, next_key}
+use Rattle.sst_bbt_write.proofs.Keeping.{keeps-with}
 use Rattle.sst_bbt_write.proofs.CutSteps.{cut_of-begun, full-some, room-full, room-short}
 
 -- the entry may be added to the list
-pub awaits-next : (w new : BbtWriter) (options : BbtOptions) (entries : List Entry) (bytes : List ℕ) (e : Entry) → After w options entries bytes
-    → Keeps new None (cut_of options entries) entries bytes → new.key.items ≡ key_of e → Fits (entries ++ e ∷ []) → Awaits new e (cut_of options entries) entries bytes
-awaits-next w new options entries bytes e after kept key fits =
+pub awaits-next : (w : BbtWriter) (options : BbtOptions) (entries : List Entry) (bytes : List ℕ) (e : Entry)
+    → Keeps w None (cut_of options entries) entries bytes → w.key.items ≡ key_of e → Fits (entries ++ e ∷ []) → Awaits w e (cut_of options entries) entries bytes
+awaits-next w options entries bytes e kept key fits =
     record { keeps = kept; begun = cut_of-begun options entries; key = key; fits = fits }
 
 -- the entry comes behind the ended blocks, if none is begun
@@ -27,25 +27,8 @@ told-ends options ended (e ∷ rest) key begun = refl
 
 keeps-told : (w : BbtWriter) (e : Entry) (cut : Blocks) (entries : List Entry) (bytes : List ℕ) → Awaits w e cut entries bytes → Keeps w (Some (key_of e)) cut entries bytes
 keeps-told w e cut entries bytes awaits =
-    let kept = awaits.keeps in
-    record {
-      sound = kept.sound;
-      chosen = kept.chosen;
-      joined = kept.joined;
-      filled = kept.filled;
-      block = kept.block;
-      rows = kept.rows;
-      index = subst (λ (l : List BlockEnd). index.Holds w.index (index_options w.options) l) (told-ends w.options cut.ended cut.current (key_of e) awaits.begun) kept.index;
-      blocks = kept.blocks;
-      data_size = kept.data_size;
-      appended = kept.appended;
-      last = kept.last;
-      count = kept.count;
-      keys = kept.keys;
-      values = kept.values;
-      weighs = kept.weighs;
-      fits = kept.fits;
-    }
+    let told = told-ends w.options cut.ended cut.current (key_of e) awaits.begun in
+    keeps-with w w None (Some (key_of e)) cut entries bytes awaits.keeps (subst (λ (l : List BlockEnd). index.Holds w.index (index_options w.options) l) told awaits.keeps.index) refl
 
 -- the block that is full may be ended before the entry
 pub ends-full : (w new : BbtWriter) (e : Entry) (cut : Blocks) (entries : List Entry) (bytes key : List ℕ) → Awaits w e cut entries bytes → is_full w.options cut.current ≡ true
