@@ -1,7 +1,7 @@
 -- Where data blocks end: of blocks with one more, and that an index may lead to them.
-use Rattle.std.proofs.Common.{◌≡◌, ◌≢◌, ℕ, ◌+◌, ◌*◌, ◌^◌, ◌<◌, ◌≤◌, Option, Some, None, List, [], ◌∷◌, ◌++◌, length, All, sum_by, refl, sym, ap, ◌∙◌, subst, append_assoc, arith}
+use Rattle.std.proofs.Common.{◌≡◌, ◌≢◌, ℕ, ◌+◌, ◌*◌, ◌^◌, ◌<◌, ◌≤◌, Option, None, List, [], ◌∷◌, ◌++◌, length, All, sum_by, refl, sym, ap, ◌∙◌, subst, append_assoc, arith}
 use Rattle.std.proofs.lemmas.List.Elements.{All-nil, All-cons, All-head, All-tail}
-use Rattle.std.proofs.lemmas.List.Sums.{sum_by-cons, sum_by-append}
+use Rattle.std.proofs.lemmas.List.Sums.{sum_by-cons}
 use Rattle.std.specs.Cmp.{nat_cmp_is}
 use Rattle.std.specs.declared.cmp.Ordering.TheVariants.{Less, Equal, Greater}
 use Rattle.sst_key.specs.declared.entries.Entry.{Entry}
@@ -10,7 +10,7 @@ use Rattle.sst_key.specs.InternalKey.{internal_cmp, user_of, tag_of}
 use Rattle.sst_key.proofs.KeyParts.{slice_cmp-same}
 use Rattle.sst_key.proofs.TargetOrder.{IsBefore-trans}
 use Rattle.sst_block.specs.Builder.{last_key}
-use Rattle.sst_index.specs.Ends.{AreEnds, AreFollowed, BlockEnd, Follows, IsAfter, IsEnd, end_weight}
+use Rattle.sst_index.specs.Ends.{AreEnds, AreFollowed, BlockEnd, IsAfter, IsEnd, end_weight}
 use Rattle.sst_bbt_spec.specs.Rows.{rows_of}
 use Rattle.sst_bbt_spec.proofs.RowsOf.{length-key_of}
 use Rattle.sst_bbt_write.specs.Cut.{data_block, entries_in}

@@ -1,11 +1,11 @@
 -- How a list that is cut into blocks is cut with one entry more.
-use Rattle.std.proofs.Common.{◌≡◌, ◌<◌, true, false, if◌then◌else◌, nat_lt, List, [], ◌∷◌, ◌++◌, length, length-append, All, refl, sym, ap, ◌∙◌, subst, append_assoc, arith}
+use Rattle.std.proofs.Common.{◌≡◌, ◌<◌, true, false, if◌then◌else◌, List, [], ◌∷◌, ◌++◌, length, length-append, All, refl, sym, ap, ◌∙◌, subst, append_assoc, arith}
 use Rattle.std.proofs.lemmas.Bool.{lt-ltb}
 use Rattle.std.proofs.lemmas.List.{append-nil}
 use Rattle.std.proofs.lemmas.List.Elements.{All-nil, All-push}
 use Rattle.sst_key.specs.declared.entries.Entry.{Entry}
 use Rattle.sst_bbt_write.specs.Cut.{Blocks, add_entry, blocks_for, cut_from, cut_of, ended_all, entries_in, is_full}
-use Rattle.sst_bbt_write.specs.Keeps.{HasEntry, IsBegun, all_ended, ended_now, ended_last, with_room, with_entry}
+use Rattle.sst_bbt_write.specs.Keeps.{HasEntry, IsBegun, ended_now, ended_last, with_room, with_entry}
 use Rattle.sst_bbt_write.specs.declared.bbt_options.BbtOptions.{BbtOptions}
 
 -- an entry more comes last
@@ -94,14 +94,6 @@ room-short options cut short = rw short refl
 
 pub last-some : (cut : Blocks) → 0 < length cut.current → ended_last cut ≡ ended_now cut
 last-some cut some = rw (lt-ltb 0 (length cut.current) some) refl
-
-last-nothing : (ended : List (List Entry)) (current : List Entry) → length current ≡ 0
-    → ended_last (record { ended = ended; current = current }) ≡ record { ended = ended; current = current }
-last-nothing ended [] none = ap all_ended (append-nil ended)
-last-nothing ended (e ∷ rest) none = absurd (omega arith)
-
-pub last-none : (cut : Blocks) → length cut.current ≡ 0 → ended_last cut ≡ cut
-last-none cut none = last-nothing cut.ended cut.current none
 
 -- a list with an entry has begun a block
 added-begun : (options : BbtOptions) (cut : Blocks) (e : Entry) → IsBegun (add_entry options cut e)

@@ -5,7 +5,6 @@ use Rattle.sst_key.specs.declared.entries.Entry.{Entry}
 use Rattle.sst_key.specs.Entry.{key_of, entry_weight, weight}
 use Rattle.sst_block.specs.declared.row_form.RowForm.{RowForm}
 use Rattle.sst_block.specs.declared.row_form.RowForm.TheVariants.{Entries}
-use Rattle.sst_block.specs.declared.builder.BlockBuilder.{BlockBuilder}
 use Rattle.sst_block.specs.Block.{Row}
 use Rattle.sst_block.specs.Builder.{Holds, CanAdd, row_put}
 use Rattle.sst_index.specs.declared.builder.IndexBuilder.{IndexBuilder}

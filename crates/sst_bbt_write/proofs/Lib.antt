@@ -12,8 +12,10 @@ pub mod FullBlocks
 pub mod IndexSize
 pub mod IndexStands
 pub mod IndexedBlocks
+pub mod Keeping
 pub mod KeySeparators
 pub mod ListParts
+pub mod MakingRoom
 pub mod OneCut
 pub mod PartsLead
 pub mod PropertyRows

@@ -71,7 +71,7 @@ pub record Ends (w : BbtWriter) (next : Option (List ℕ)) (coming : List Entry)
   pub fits : Fits (entries ++ coming)
 
 -- blocks, all of which are ended
--- RocksDB: Finish
+-- For proofs alone.
 abbrev pub all_ended : List (List Entry) → Blocks
 all_ended blocks = record { ended = blocks; current = [] }
 

@@ -3,26 +3,37 @@
 //! # Layout of a file
 //!
 //! ```text
-//! +------------+-----+------------+-------------+------------------+-----------------+--------+
-//! | data block | ..  | data block | index block | properties block | metaindex block | footer |
-//! +------------+-----+------------+-------------+------------------+-----------------+--------+
-//! |<-- add, as blocks end ------->|<-- finish ------------------------------------------------>|
+//! +------------+-----+------------+-------+------------------+-----------------+--------+
+//! | data block | ..  | data block | index | properties block | metaindex block | footer |
+//! +------------+-----+------------+-------+------------------+-----------------+--------+
+//! |<-- add, as blocks end ------->|<-- finish ------------------------------------------>|
+//!
+//! the index, whole or in parts:
+//! +-------------+      +-----------+-----+-----------+-----------+
+//! | index block |  or  | partition | ..  | partition | top block |
+//! +-------------+      +-----------+-----+-----------+-----------+
 //! ```
 //!
 //! Each block has a trailer of five bytes: a type byte and its masked CRC32C. A data block is ended where it has as many
-//! bytes as the option says. Each row of the index leads to a data block; its key, the separator, is the block's last key.
+//! bytes as the option says. Each row of the index block or of a partition leads to a data block; its key, the separator,
+//! isn't before the block's last key, and is before the first key of the next. Each row of the top block leads to a
+//! partition by its last separator. The crate `sst_index` makes the index.
+//!
+//! From version 3 of the format on separators are user keys, where no two neighbouring data blocks share one; in version 4
+//! handles are differences where their rows share bytes. The properties say which it is, and whether the index has parts.
 //!
 //! # Example
 //!
-//! The file of the one entry with user key `a`, sequence number 1 and value `x` has 402 bytes:
+//! The file of the one entry with user key `a`, sequence number 1 and value `x`, of version 2 and with a whole index, has
+//! 402 bytes. A user key of one byte gets no shorter separator:
 //!
 //! ```text
 //!  at  bytes                                       what they are
 //!   0  00 09 01 61 01 01 00 00 00 00 00 00 78      the data block: the row of the entry,
 //!  13  00 00 00 00 01 00 00 00                     and one restart
 //!  21  00 84 dd 88 74                              its trailer: type byte, checksum
-//!  26  00 09 02 61 01 01 00 00 00 00 00 00 00 15   the index block: the last key leads to the block of
-//!                                                  21 bytes at 0,
+//!  26  00 09 02 61 01 01 00 00 00 00 00 00 00 15   the index block: the separator, which is the last key,
+//!                                                  leads to the block of 21 bytes at 0,
 //!  40  00 00 00 00 01 00 00 00                     and one restart
 //!  48  00 36 49 25 bf                              its trailer
 //!  53  00 24 04 72 6f .. 70 65 00 00 00 00         the properties block: `rocksdb.block.based.table.index.type`
@@ -47,11 +58,12 @@
 //! - [`BbtWriter::add`] takes an entry or refuses it for the first reason in a fixed order, and a refused entry leaves the
 //!   writer as it was. [`BbtWriter::finish`] appends the rest: the file that was appended is then what is `Written` for the
 //!   list (specs/Written.antt), to the byte.
-//! - What is `Written` for a list stands for it ([`written_file_stands_for_its_list`]), for every list within the limits.
+//! - What is `Written` for a list stands for it ([`written_file_stands_for_its_list`]), for every list within the limits, and
+//!   all options that may be chosen.
 //! - Data blocks end where they are full, and no sooner; no other blocks of the list do
 //!   ([`a_list_is_cut_where_blocks_are_full`]).
 //!
-//! RocksDB: wiki page "Rocksdb BlockBasedTable Format"; `BlockBasedTableBuilder` in
+//! RocksDB: wiki pages "Rocksdb BlockBasedTable Format" and "Partitioned Index Filters"; `BlockBasedTableBuilder` in
 //! table/block_based/block_based_table_builder.cc.
 #![tactic(auto)]
 

@@ -16,9 +16,11 @@ const NAME: &str = "table";
 
 /// The size of data blocks that RocksDB takes where no other is chosen.
 const OPTIONS: BbtOptions = BbtOptions {
+    version: 2,
     block_size: 4096,
     restart: 16,
     index_restart: 1,
+    parts: 0,
 };
 
 /// The key `a`, which has the value `x` since 2.

@@ -1,8 +1,6 @@
-use Rattle.std.proofs.Common.{List, ℕ, ◌∙◌, ◌++◌, ◌+◌, sym, ap, subst}
-use Rattle.std.proofs.lemmas.Result.{on_ok_weaker}
+use Rattle.std.proofs.Common.{List, sym, subst}
 use Rattle.sst_block.specs.Block.{Row}
 use Rattle.sst_meta.specs.MetaRows.{AreMetaRows}
-use Rattle.sst_meta.specs.Put.{ending_of}
 use Rattle.sst_bbt_write.proofs.PropertyRows.{properties-rows}
 use Rattle.sst_bbt_write.proofs.table_parts.put_end.Goals as goal
 

@@ -1,10 +1,9 @@
-use Rattle.std.proofs.Common.{◌≡◌, None, [], ◌++◌, refl, sym, subst, arith}
-use Rattle.std.proofs.lemmas.List.{append-nil}
+use Rattle.std.proofs.Common.{None, [], ◌++◌, sym, subst, arith}
 use Rattle.std.proofs.lemmas.Result.{on_ok_weaker}
 use Rattle.sst_bbt_write.specs.Cut.{Blocks}
-use Rattle.sst_bbt_write.specs.Keeps.{Ends, Keeps}
-use Rattle.sst_bbt_write.proofs.CutSteps.{last-some, last-none}
-use Rattle.sst_bbt_write.proofs.Finishing.{ends-last, kept-some, kept-none}
+use Rattle.sst_bbt_write.specs.Keeps.{Keeps}
+use Rattle.sst_bbt_write.proofs.CutSteps.{last-some}
+use Rattle.sst_bbt_write.proofs.Keeping.{ends-last, kept-some}
 use Rattle.sst_bbt_write.proofs.bbt_writer.BbtWriter.end_last.Goals as goal
 
 pub end_block-requires : goal.end_block-requires

@@ -1,10 +1,9 @@
-use Rattle.std.proofs.Common.{Some, List, ℕ, [], ◌∷◌, ◌++◌, refl, sym, ap, ◌∙◌, subst}
+use Rattle.std.proofs.Common.{[], ◌∷◌, ◌++◌, refl, sym, ap, ◌∙◌}
 use Rattle.std.proofs.lemmas.List.{append-nil}
 use Rattle.std.proofs.lemmas.Result.{on_ok_weaker}
-use Rattle.sst_key.specs.Entry.{key_of}
-use Rattle.sst_bbt_write.specs.Cut.{Blocks}
-use Rattle.sst_bbt_write.specs.Keeps.{Keeps, with_room}
-use Rattle.sst_bbt_write.proofs.Finishing.{ends-full, keeps-full, keeps-other, keeps-short}
+use Rattle.sst_bbt_write.specs.Keeps.{with_room}
+use Rattle.sst_bbt_write.proofs.Keeping.{keeps-other}
+use Rattle.sst_bbt_write.proofs.MakingRoom.{ends-full, keeps-full, keeps-short}
 use Rattle.sst_bbt_write.proofs.bbt_writer.BbtWriter.make_room.Goals as goal
 
 pub end_block-ended-requires : goal.end_block-ended-requires

@@ -1,5 +1,5 @@
 use Rattle.std.proofs.Common.{refl}
-use Rattle.sst_bbt_write.proofs.Finishing.{after-none}
+use Rattle.sst_bbt_write.proofs.Keeping.{after-none}
 use Rattle.sst_bbt_write.proofs.bbt_writer.BbtWriter.new.Goals as goal
 
 pub returns : goal.returns

@@ -3,7 +3,8 @@ use Rattle.sst_key.specs.Entry.{entry_of, internal_key}
 use Rattle.sst_bbt_write.specs.Keeps.{with_room}
 use Rattle.sst_bbt_write.specs.Cut.{cut_of}
 use Rattle.sst_bbt_write.proofs.Added.{last_has_tag, Fits-next}
-use Rattle.sst_bbt_write.proofs.Finishing.{after-added, awaits-next, keeps-other, room-of}
+use Rattle.sst_bbt_write.proofs.Keeping.{after-added, keeps-other, room-of}
+use Rattle.sst_bbt_write.proofs.MakingRoom.{awaits-next}
 use Rattle.sst_bbt_write.proofs.bbt_writer.BbtWriter.put.Goals as goal
 
 pub fault_of-requires-clause-last : goal.fault_of-requires-clause-last
@@ -19,7 +20,7 @@ make_room-requires c =
     let made = c.in_ok-pack.ensures.ok ∙ ap (λ (l : List ℕ). l ++ internal_key e.user.now e.seq e.kind) c.clear.ensures.items in
     let fits = Fits-next entries (entry_of e) a.keeps.fits c.requires.seq (sym (c.in-None.ensures entries a.keeps.count a.keeps.weighs (c.deref.ensures.value ∙ a.keeps.last) (c.deref-2.ensures.value ∙ made))) in
     let cut = cut_of options entries in
-    (entry_of e, cut, entries, bytes, awaits-next c.args.self.now _ options entries bytes (entry_of e) a (keeps-other c.args.self.now _ None cut entries bytes a.keeps refl) made fits)
+    (entry_of e, cut, entries, bytes, awaits-next _ options entries bytes (entry_of e) (keeps-other c.args.self.now _ None cut entries bytes a.keeps refl) made fits)
 
 pub push-requires-clause-writer : goal.push-requires-clause-writer
 push-requires-clause-writer c =
@@ -30,7 +31,7 @@ push-requires-clause-writer c =
     let fits = Fits-next entries (entry_of e) a.keeps.fits c.requires.seq (sym (c.in-None.ensures entries a.keeps.count a.keeps.weighs (c.deref.ensures.value ∙ a.keeps.last) (c.deref-2.ensures.value ∙ made))) in
     let cut = cut_of options entries in
     let room = c.in_ok-make_room-in-None.ensures.ok (entry_of e) cut entries bytes
-    (awaits-next self _ options entries bytes (entry_of e) a (keeps-other self _ None cut entries bytes a.keeps refl) made fits) in
+    (awaits-next _ options entries bytes (entry_of e) (keeps-other self _ None cut entries bytes a.keeps refl) made fits) in
     (with_room self.options cut, entries, bytes ++ room.0, room.2, fits)
 
 pub returns-in_ok-push-in-None-clause-ok : goal.returns-in_ok-push-in-None-clause-ok
@@ -41,7 +42,7 @@ returns-in_ok-push-in-None-clause-ok c = λ options entries bytes a.
     let made = c.in_ok-pack.ensures.ok ∙ ap (λ (l : List ℕ). l ++ internal_key e.user.now e.seq e.kind) c.clear.ensures.items in
     let fits = Fits-next entries (entry_of e) a.keeps.fits c.requires.seq (sym (c.in-None.ensures entries a.keeps.count a.keeps.weighs (c.deref.ensures.value ∙ a.keeps.last) (c.deref-2.ensures.value ∙ made))) in
     let room = c.in_ok-make_room-in-None.ensures.ok (entry_of e) cut entries bytes
-    (awaits-next self _ options entries bytes (entry_of e) a (keeps-other self _ None cut entries bytes a.keeps refl) made fits) in
+    (awaits-next _ options entries bytes (entry_of e) (keeps-other self _ None cut entries bytes a.keeps refl) made fits) in
     let put = c.in_ok-push-in-None.ensures.ok (with_room self.options cut) entries (bytes ++ room.0) room.2 fits in
     let same = room-of self options cut a.chosen in
     let chosen = c.push.ensures.options ∙ c.make_room.ensures.same.0 ∙ a.chosen in

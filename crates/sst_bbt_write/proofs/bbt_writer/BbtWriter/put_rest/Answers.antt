@@ -1,4 +1,4 @@
-use Rattle.std.proofs.Common.{ℕ, ◌-◌, List, ◌++◌, ap, length, length-append, arith}
+use Rattle.std.proofs.Common.{◌-◌, ap, length, length-append, arith}
 use Rattle.std.proofs.lemmas.Result.{err_from_is_err_and}
 use Rattle.sst_bbt_write.specs.Written.{ends_of, index_options, index_part}
 use Rattle.sst_bbt_write.proofs.Finishing.{grown, index-put, index-stands, rest-base, rest-fits, rest-is, rest-sizes}
