@@ -3,6 +3,7 @@ use Rattle.std.proofs.Common.{◌≡◌, ℕ, zero, suc, ◌+◌, ◌-◌, ◌^�
 use Rattle.std.specs.Prelude.{slice_get}
 use Rattle.std.specs.Ordering.{nat_cmp, is_lt, ordering_then}
 use Rattle.std.specs.Cmp.Lexicographic.{slice_cmp}
+use Rattle.std.proofs.lemmas.Bool.{lt-ltb, ltb-true, ne_eqb}
 use Rattle.std.proofs.lemmas.List.{length-map}
 use Rattle.std.proofs.lemmas.List.Sums.{sum_by-cons}
 use Rattle.std.proofs.lemmas.Option.{same_Some}
@@ -14,7 +15,7 @@ use Rattle.sst_key.proofs.KeyParts.{take-front, user_of-key, tag_of-key}
 use Rattle.sst_block.specs.declared.row_form.RowForm.TheVariants.{Index}
 use Rattle.sst_block.specs.Block.{Row, Spelled, no_handle}
 use Rattle.sst_block.specs.IndexRows.{IndexPair, IndexRows, SayPairs}
-use Rattle.sst_block.specs.Iter.{Walks, WalksIn, place_of}
+use Rattle.sst_block.specs.Iter.{Walks, WalksIn, place_of, place_before}
 use Rattle.sst_block.specs.BlockReading.{has_tag}
 use Rattle.sst_block.specs.Seek.{CanSeek, IsTarget, is_row_before, rows_before}
 use Rattle.sst_block.proofs.KeyOrder.{before-counts, not-counts}
@@ -64,6 +65,21 @@ pub stands : (it : IndexIter) (flags : IndexFlags) (bytes : List ℕ) (pairs : L
 stands it flags bytes pairs i told there is w =
     let test : nat_lt i (length pairs) ≡ true = sym is ∙ there in
     let place : pair_place pairs i ≡ Some i = rw test refl in
+    subst (λ (p : Option ℕ). WalksPairs it flags bytes pairs p) place w
+
+pub stands-last : (it : IndexIter) (flags : IndexFlags) (bytes : List ℕ) (pairs : List IndexPair) (told : Bool) → told ≡ true → told ≡ nat_lt 0 (length pairs)
+    → WalksPairs it flags bytes pairs (pair_place pairs (length pairs - 1)) → WalksPairs it flags bytes pairs (Some (length pairs - 1))
+stands-last it flags bytes pairs told there is w =
+    let some : 0 < length pairs = ltb-true 0 (length pairs) (sym is ∙ there) in
+    let test = lt-ltb (length pairs - 1) (length pairs) (omega (arith, some)) in
+    stands it flags bytes pairs (length pairs - 1) true refl (sym test) w
+
+pub stands-before : (it : IndexIter) (flags : IndexFlags) (bytes : List ℕ) (pairs : List IndexPair) (i : ℕ) (told : Bool) → told ≡ true → told ≡ nat_lt 0 i
+    → WalksPairs it flags bytes pairs (place_before i) → WalksPairs it flags bytes pairs (Some (i - 1))
+stands-before it flags bytes pairs i told there is w =
+    let some : 0 < i = ltb-true 0 i (sym is ∙ there) in
+    let test = ne_eqb i 0 (λ none. omega (arith, some, none)) in
+    let place : place_before i ≡ Some (i - 1) = rw test refl in
     subst (λ (p : Option ℕ). WalksPairs it flags bytes pairs p) place w
 
 -- the pair of a row

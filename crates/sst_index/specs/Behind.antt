@@ -1,5 +1,6 @@
 -- Handles that may be told by differences: each block begins behind the one before, so a handle is known by its size.
 -- RocksDB: IndexValue::EncodeTo in table/format.cc, which asserts it; wiki page "Rocksdb BlockBasedTable Format".
+-- Pinned by: an_index_block_says_its_pairs, index_of_differences
 use Rattle.std.specs.Prelude.{◌≡◌, ◌+◌, ℕ, pos, ◌-ℤ◌, Option, None, Some, List, [], ◌∷◌}
 use Rattle.sst_num.specs.Spelling.{IsSigned64, signed_varint}
 use Rattle.sst_num.specs.declared.block_handle.Handle.{Handle}
@@ -15,14 +16,14 @@ pub record IsBehind (before h : Handle) : Type 0 where
 
 -- each block begins behind the one before; `before` is the handle before the first
 -- RocksDB: table/format.cc, IndexValue::EncodeTo
--- Pinned by: an_index_block_says_its_pairs, add.ok
+-- Pinned by: an_index_block_says_its_pairs, index_of_differences
 abbrev pub ComeBehind : Handle → List IndexPair → Type 0
 ComeBehind before [] = Unit {0}
 ComeBehind before (pair ∷ pairs) = IsBehind before pair.handle × ComeBehind pair.handle pairs
 
 -- the same, where nothing is asked of the first
 -- RocksDB: table/format.cc, IndexValue::EncodeTo
--- Pinned by: an_index_block_says_its_pairs, add.ok
+-- Pinned by: an_index_block_says_its_pairs, index_of_differences
 abbrev pub AreBehind : List IndexPair → Type 0
 AreBehind [] = Unit {0}
 AreBehind (pair ∷ pairs) = ComeBehind pair.handle pairs
