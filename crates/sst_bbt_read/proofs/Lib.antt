@@ -23,5 +23,7 @@ pub mod RunSearch
 pub mod RunsRead
 pub mod RunsWalked
 pub mod Seated
+pub mod StandsOpened
 pub mod TableGrown
+pub mod TableRead
 pub mod WayOfParts

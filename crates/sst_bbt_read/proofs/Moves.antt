@@ -3,7 +3,7 @@ use Rattle.std.proofs.Common.{◌≡◌, ℕ, ◌<◌, List, length, slice_get, 
 use Rattle.std.proofs.lemmas.Option.{slice_get_read}
 use Rattle.sst_key.specs.declared.calls.Reply.{Reply}
 use Rattle.sst_key.specs.declared.entries.Entry.{Entry}
-use Rattle.sst_key.specs.ListMachine.{is_of_user, where_passes, place_in, lands, next_of, steps_on, last_of, place_before}
+use Rattle.sst_key.specs.ListMachine.{is_of_user, where_passes, place_in, lands, next_of, steps_on, last_of}
 use Rattle.sst_bbt_spec.specs.Mark.{shown_in}
 use Rattle.sst_bbt_spec.specs.Parts.{stored_in}
 use Rattle.sst_bbt_spec.specs.PartWay.{seek_passed_in, prev_passed_in, seek_in_parts, seek_for_prev_in_parts, get_in_parts}
@@ -44,18 +44,7 @@ seek-after table now user seq n place same is passed at =
     let entries = shown_in None (parts_of now) in
     at ∙ ap (λ (es : List Entry). place_in es n) (sym (shown-now table now same is)) ∙ ap (option_and_then (λ n. place_in entries n)) passed
 
--- it passed all parts
-pub seek-past : (now : OpenTable) (user : List ℕ) (seq : ℕ) → None ≡ seek_passed_in None (parts_of now) user seq → None ≡ seek_in_parts None (parts_of now) user seq
-seek-past now user seq passed =
-    let entries = shown_in None (parts_of now) in
-    ap (option_and_then (λ n. place_in entries n)) passed
-
--- SeekForPrev passed so many entries
-pub prev-after : (now : OpenTable) (user : List ℕ) (seq n : ℕ) (place : Option ℕ) → Some n ≡ prev_passed_in None (parts_of now) user seq
-    → place ≡ place_before n → place ≡ seek_for_prev_in_parts None (parts_of now) user seq
-prev-after now user seq n place passed at = at ∙ ap (last_passed (shown_in None (parts_of now))) passed
-
--- it passed all parts
+-- SeekForPrev passed all parts
 pub prev-past : (table now : OpenTable) (user : List ℕ) (seq : ℕ) (place : Option ℕ) → table ≡ now → IsOpenTable table
     → None ≡ prev_passed_in None (parts_of now) user seq → place ≡ last_of now.entries → place ≡ seek_for_prev_in_parts None (parts_of now) user seq
 prev-past table now user seq place same is passed at =

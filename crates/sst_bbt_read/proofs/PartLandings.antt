@@ -5,13 +5,13 @@ use Rattle.std.proofs.lemmas.Option.{slice_get-get_or}
 use Rattle.std.proofs.lemmas.List.Sums.{count_by-le-length}
 use Rattle.sst_key.specs.declared.entries.Entry.{Entry}
 use Rattle.sst_key.specs.Entry.{IsOrdered}
-use Rattle.sst_bbt_spec.specs.Way.{IndexedBlock, joined, passed}
+use Rattle.sst_bbt_spec.specs.Way.{IndexedBlock, joined, passed, is_separator_before}
 use Rattle.sst_bbt_spec.specs.PartWay.{or_all, passed_in}
 use Rattle.sst_bbt_read.specs.TableBlocks.{OpenTable, IsOpenTable, AreEnds, AreEntries, AreSeparators, blocks_from, blocks_of, parts_of, start_at}
 use Rattle.sst_bbt_read.specs.declared.kept_table.RunEnd.{RunEnd}
 use Rattle.sst_bbt_read.proofs.RunEnds.{between, length-between, between-at, start-between, behind-at, run-within, ends-between, start-within}
 use Rattle.sst_bbt_read.proofs.JoinedParts.{length-blocks, blocks-between, joined-length, joined-between}
-use Rattle.sst_bbt_read.proofs.RunSearch.{Falls}
+use Rattle.sst_bbt_read.proofs.RunSearch.{Falls, before-falls}
 use Rattle.sst_bbt_read.proofs.WayOfParts.{test_of, before, block-has, part-separators, IsWeight, leads-into, blocks-past, parts-past, leads-to_part}
 
 -- the p-th part of a table: its first block, and the ends of its blocks
@@ -138,12 +138,13 @@ inside is_before test now p first i start ends items is part block falls count =
           ∙ led.sum ∙ ap (λ (n : ℕ). n + count_by test (between now.entries n h.b.end)) begins
           ∙ ap (λ (es : List Entry). start + count_by test es) (sym items_are)
       | inr high ↦
-          let none = ap (count_by test) (block.none high) in
+          let none : count_by test items ≡ 0 = ap (count_by test) (block.none high) in
           let end : first + i ≡ part.top.end = omega (arith, long, high, block.low) in
           let all = joined-length from ends now.entries to are short in
           let there = block.begins ∙ ap (start_at 0 now.ends) end in
+          let whole : from + length (joined (blocks_from from ends now.entries)) ≡ start + count_by test items = omega (arith, all, there, none) in
           ap (λ (n : Option ℕ). from + or_all (joined (blocks_from from ends now.entries)) n) (blocks-past is_before test from ends now.entries (omega (arith, count, high)))
-          ∙ all ∙ sym (ap (λ (n : ℕ). start + n) none ∙ there)
+          ∙ whole
     ]
 
 -- what is passed in all
@@ -167,3 +168,34 @@ passes is_before test now p first i start ends items is part block tops many fal
 pub passes-none : (is_before : List ℕ → Bool) (test : Entry → Bool) (now : OpenTable) (p : ℕ) → p ≡ before is_before now.tops → length now.tops ≤ p
     → None ≡ passed_in is_before test (parts_of now)
 passes-none is_before test now p many past = sym (parts-past is_before test 0 now.tops (blocks_of now) (omega (arith, many, past)))
+
+-- ---- what the code of a reader has
+
+-- what is told of a part
+pub in_part : (now : OpenTable) (p first : ℕ) (ends : List RunEnd)
+    → (top : RunEnd) × (slice_get now.tops p ≡ Some top) × (first ≡ start_at 0 now.tops p) × (ends ≡ take (top.end - first) (drop first now.ends))
+    → InPart now p first ends
+in_part now p first ends (top, at, begins, are) = record { top = top; at = at; begins = begins; are = are }
+
+-- what is told of a block of it
+pub in_block : (now : OpenTable) (first count i start : ℕ) (items : List Entry) (ends : List RunEnd) (p : RunEnd → Bool) → count ≡ length ends → i ≡ count_by p ends
+    → start ≡ start_at 0 now.ends (first + i)
+    → (i < count → (b : RunEnd) → slice_get now.ends (first + i) ≡ Some b → items ≡ take (b.end - start) (drop start now.entries))
+    → (count ≤ i → items ≡ []) → InBlock now first (length ends) i start items
+in_block now first count i start items ends p long is begins entries none =
+    subst (λ (n : ℕ). InBlock now first n i start items) long
+    (record { low = omega (arith, long, is, count_by-le-length p ends); begins = begins; are = entries; none = none })
+
+-- how many separators of the top block are before is counted on the table
+pub counted : (table now : OpenTable) (tops : List RunEnd) (user : List ℕ) (t p : ℕ) → table ≡ now → tops ≡ table.tops
+    → p ≡ before (is_separator_before user t) tops → p ≡ before (is_separator_before user t) now.tops
+counted table now tops user t p same are count =
+    count ∙ ap (before (is_separator_before user t)) (are ∙ ap (λ (t : OpenTable). t.tops) same)
+
+-- what is passed on the way to a target
+pub passed-so : (now : OpenTable) (user : List ℕ) (t : ℕ) (test : Entry → Bool) (p first i start : ℕ) (ends : List RunEnd) (items : List Entry) → IsOpenTable now
+    → InPart now p first ends → InBlock now first (length ends) i start items → p ≡ before (is_separator_before user t) now.tops
+    → i ≡ before (is_separator_before user t) ends → Some (start + count_by test items) ≡ passed_in (is_separator_before user t) test (parts_of now)
+passed-so now user t test p first i start ends items is part block many count =
+    passes (is_separator_before user t) test now p first i start ends items is part block (before-falls user t now.tops is.separators.ordered) many
+    (before-falls user t ends (ends-separate now p first ends is part).ordered) count

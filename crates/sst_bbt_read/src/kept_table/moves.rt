@@ -129,6 +129,7 @@ impl KeptTable {
         ensures place { result ≡ seek_in_parts None (parts_of self.now) user.now seq }
         ensures belongs { IsPlace self.now.entries result }
     {
+        let _entries = &self.entries;
         let passed = self.seek_passed(user, seq)?;
         self.place_in(passed)
     }
@@ -167,6 +168,7 @@ impl KeptTable {
         ensures found { result ≡ is_some place.new }
         ensures belongs { IsPlace self.now.entries place.new }
     {
+        let _entries = &self.entries;
         *place = self.of_user(self.seek_place(user, seq), user);
         place.is_some()
     }

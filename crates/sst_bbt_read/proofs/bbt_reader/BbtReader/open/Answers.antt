@@ -8,7 +8,7 @@ returns-in-Err-clause-stands g c = λ file entries told stands fault is. no-dama
 
 pub returns-in_ok-reader-in-Ok-clause-told : goal.returns-in_ok-reader-in-Ok-clause-told
 returns-in_ok-reader-in-Ok-clause-told g c = λ file told.
-    opens-as c.in_ok-reader-in-Ok.reader c.in-Ok.table file (ap (λ (r : OpenReader). r.table) c.in_ok-reader-in-Ok.ensures) c.in-Ok.ensures.table (c.in-Ok.ensures.told file told)
+    opens-as c.in_ok-reader-in-Ok.reader c.in-Ok.table file (ap (λ (r : OpenReader). r.table) c.in_ok-reader-in-Ok.ensures) (c.in-Ok.ensures.told file told)
 
 pub returns-in_ok-reader-in-Ok-clause-none : goal.returns-in_ok-reader-in-Ok-clause-none
 returns-in_ok-reader-in-Ok-clause-none g c = λ d belongs.
