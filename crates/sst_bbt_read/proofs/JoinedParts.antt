@@ -1,12 +1,12 @@
 -- The parts of a table, one after another, hold its entries.
-use Rattle.std.proofs.Common.{◌≡◌, ℕ, zero, suc, ◌+◌, ◌-◌, ◌<◌, ◌≤◌, List, [], ◌∷◌, ◌++◌, length, length-append, take, drop, map, All, None, refl, sym, ap, ◌∙◌, subst, arith}
+use Rattle.std.proofs.Common.{◌≡◌, ℕ, zero, suc, ◌+◌, ◌-◌, ◌<◌, ◌≤◌, List, [], ◌∷◌, ◌++◌, length, length-append, take, drop, All, None, refl, sym, ap, ◌∙◌, subst, arith}
 use Rattle.std.proofs.lemmas.List.{drop-drop, drop_all, take-append-drop, append_assoc}
 use Rattle.std.proofs.lemmas.List.Elements.{All-nil, All-head, All-tail, All-append}
 use Rattle.sst_key.specs.declared.entries.Entry.{Entry}
 use Rattle.sst_bbt_spec.specs.Rows.{HasSeq}
 use Rattle.sst_bbt_spec.specs.Way.{IndexedBlock, joined}
 use Rattle.sst_bbt_spec.specs.Mark.{shown_in}
-use Rattle.sst_bbt_spec.specs.Parts.{Part, stored_in}
+use Rattle.sst_bbt_spec.specs.Parts.{stored_in}
 use Rattle.sst_bbt_spec.proofs.PartLaws.{shown-none}
 use Rattle.sst_bbt_read.specs.TableBlocks.{OpenTable, IsOpenTable, AreEnds, AreEntries, blocks_from, blocks_of, parts_from, parts_of, start_at}
 use Rattle.sst_bbt_read.specs.declared.kept_table.RunEnd.{RunEnd}

@@ -10,7 +10,7 @@ use Rattle.sst_bbt_spec.specs.BlockBased.{Opens}
 use Rattle.sst_bbt_spec.specs.Parts.{Part}
 use Rattle.sst_bbt_spec.proofs.PartsLead.{opens-one}
 use Rattle.sst_bbt_read.specs.Kept.{Keeps}
-use Rattle.sst_bbt_read.specs.Positions.{Of, Belongs, OpensAs}
+use Rattle.sst_bbt_read.specs.Positions.{Belongs, OpensAs}
 use Rattle.sst_bbt_read.specs.Reader.{OpensTo}
 use Rattle.sst_bbt_read.specs.Seats.{OpenReader}
 use Rattle.sst_bbt_read.specs.TableBlocks.{OpenTable, IsOpenTable, parts_of}

@@ -1,5 +1,5 @@
 -- How many entries are passed on the way to a target, as the code of a reader finds it.
-use Rattle.std.proofs.Common.{◌≡◌, ℕ, zero, suc, ◌+◌, ◌-◌, ◌<◌, ◌≤◌, Bool, List, [], length, take, drop, count_by, slice_get, slice_index_or, Option, None, Some, refl, sym, ap, ◌∙◌, subst, inl, inr, arith}
+use Rattle.std.proofs.Common.{◌≡◌, ℕ, ◌+◌, ◌-◌, ◌<◌, ◌≤◌, Bool, List, [], length, take, drop, count_by, slice_get, slice_index_or, Option, None, Some, sym, ap, ◌∙◌, subst, inl, inr, arith}
 use Rattle.std.proofs.lemmas.Bool.{cases_lt}
 use Rattle.std.proofs.lemmas.Option.{slice_get-get_or}
 use Rattle.std.proofs.lemmas.List.Sums.{count_by-le-length}
@@ -9,7 +9,7 @@ use Rattle.sst_bbt_spec.specs.Way.{IndexedBlock, joined, passed, is_separator_be
 use Rattle.sst_bbt_spec.specs.PartWay.{or_all, passed_in}
 use Rattle.sst_bbt_read.specs.TableBlocks.{OpenTable, IsOpenTable, AreEnds, AreEntries, AreSeparators, blocks_from, blocks_of, parts_of, start_at}
 use Rattle.sst_bbt_read.specs.declared.kept_table.RunEnd.{RunEnd}
-use Rattle.sst_bbt_read.proofs.RunEnds.{between, length-between, between-at, start-between, behind-at, run-within, ends-between, start-within}
+use Rattle.sst_bbt_read.proofs.RunEnds.{between, length-between, between-at, start-between, run-within, ends-between, start-within}
 use Rattle.sst_bbt_read.proofs.JoinedParts.{length-blocks, blocks-between, joined-length, joined-between}
 use Rattle.sst_bbt_read.proofs.RunSearch.{Falls, before-falls}
 use Rattle.sst_bbt_read.proofs.WayOfParts.{test_of, before, block-has, part-separators, IsWeight, leads-into, blocks-past, parts-past, leads-to_part}

@@ -1,5 +1,5 @@
 -- A file that stands for a list opens to the parts through which the list runs, and has no fault.
-use Rattle.std.proofs.Common.{◌≡◌, ℕ, List, Result, Ok, Err}
+use Rattle.std.proofs.Common.{ℕ, List, Result, Ok, Err}
 use Rattle.sst_num.specs.declared.stops.Stop.{Stop}
 use Rattle.sst_num.specs.declared.stops.Stop.TheVariants.{Damage, Device, Memory}
 use Rattle.sst_key.specs.declared.entries.Entry.{Entry}

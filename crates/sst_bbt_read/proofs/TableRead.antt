@@ -1,9 +1,9 @@
 -- What the code of a reader reads of its table: where its runs begin, and what stands in them.
-use Rattle.std.proofs.Common.{◌≡◌, ℕ, suc, ◌-◌, ◌<◌, ◌≤◌, List, length, take, drop, slice_get, slice_index_or, nat_lt, true, Some, refl, sym, ap, ◌∙◌, subst, inl, inr, arith}
+use Rattle.std.proofs.Common.{◌≡◌, ℕ, suc, ◌<◌, ◌≤◌, List, length, slice_get, slice_index_or, nat_lt, true, Some, refl, sym, ap, ◌∙◌, subst, inl, inr, arith}
 use Rattle.std.proofs.lemmas.Bool.{cases_lt, le-ltb}
 use Rattle.std.proofs.lemmas.Option.{same_Some, slice_get_read}
 use Rattle.sst_key.specs.declared.entries.Entry.{Entry}
-use Rattle.sst_bbt_read.specs.TableBlocks.{OpenTable, IsOpenTable, AreEnds, start_at}
+use Rattle.sst_bbt_read.specs.TableBlocks.{OpenTable, AreEnds, start_at}
 use Rattle.sst_bbt_read.specs.declared.kept_table.RunEnd.{RunEnd}
 use Rattle.sst_bbt_read.proofs.RunEnds.{between, behind-at, run-within}
 
@@ -41,10 +41,10 @@ pub part-read : (table now : OpenTable) (tops ends : List RunEnd) (first i : ℕ
     → first ≡ start_at 0 tops i → slice_get table.tops i ≡ Some top
     → (x : RunEnd) × (slice_get now.tops i ≡ Some x) × (first ≡ start_at 0 now.tops i) × (between ends first top.end ≡ between now.ends first x.end)
 part-read table now tops ends first i top same tops_are ends_are begins at = (
-    top,
-    ap (λ (t : OpenTable). slice_get t.tops i) (sym same) ∙ at,
-    begins ∙ ap (λ (rs : List RunEnd). start_at 0 rs i) (tops_are ∙ ap (λ (t : OpenTable). t.tops) same),
-    ap (λ (rs : List RunEnd). between rs first top.end) (ends_are ∙ ap (λ (t : OpenTable). t.ends) same),
+  top,
+  ap (λ (t : OpenTable). slice_get t.tops i) (sym same) ∙ at,
+  begins ∙ ap (λ (rs : List RunEnd). start_at 0 rs i) (tops_are ∙ ap (λ (t : OpenTable). t.tops) same),
+  ap (λ (rs : List RunEnd). between rs first top.end) (ends_are ∙ ap (λ (t : OpenTable). t.ends) same),
 )
 
 -- the part that was looked up
