@@ -18,6 +18,7 @@ pub mod OpenSteps
 pub mod OpenedReader
 pub mod OpeningDecided
 pub mod PartLandings
+pub mod PassedRead
 pub mod RowsLed
 pub mod RunEnds
 pub mod RunSearch

@@ -2,17 +2,15 @@
 use Rattle.std.proofs.Common.{◌≡◌, ℕ, ◌+◌, ◌-◌, ◌<◌, ◌≤◌, Bool, List, [], length, take, drop, count_by, slice_get, slice_index_or, Option, None, Some, sym, ap, ◌∙◌, subst, inl, inr, arith}
 use Rattle.std.proofs.lemmas.Bool.{cases_lt}
 use Rattle.std.proofs.lemmas.Option.{slice_get-get_or}
-use Rattle.std.proofs.lemmas.List.Sums.{count_by-le-length}
 use Rattle.sst_key.specs.declared.entries.Entry.{Entry}
-use Rattle.sst_key.specs.Entry.{IsOrdered}
-use Rattle.sst_bbt_spec.specs.Way.{IndexedBlock, joined, passed, is_separator_before}
+use Rattle.sst_bbt_spec.specs.Way.{IndexedBlock, joined, passed}
 use Rattle.sst_bbt_spec.specs.PartWay.{or_all, passed_in}
-use Rattle.sst_bbt_read.specs.TableBlocks.{OpenTable, IsOpenTable, AreEnds, AreEntries, AreSeparators, blocks_from, blocks_of, parts_of, start_at}
+use Rattle.sst_bbt_read.specs.TableBlocks.{OpenTable, IsOpenTable, AreEnds, AreSeparators, blocks_from, blocks_of, parts_of, start_at}
 use Rattle.sst_bbt_read.specs.declared.kept_table.RunEnd.{RunEnd}
 use Rattle.sst_bbt_read.proofs.RunEnds.{between, length-between, between-at, start-between, run-within, ends-between, start-within}
 use Rattle.sst_bbt_read.proofs.JoinedParts.{length-blocks, blocks-between, joined-length, joined-between}
-use Rattle.sst_bbt_read.proofs.RunSearch.{Falls, before-falls}
-use Rattle.sst_bbt_read.proofs.WayOfParts.{test_of, before, block-has, part-separators, IsWeight, leads-into, blocks-past, parts-past, leads-to_part}
+use Rattle.sst_bbt_read.proofs.RunSearch.{Falls}
+use Rattle.sst_bbt_read.proofs.WayOfParts.{test_of, before, part-separators, IsWeight, leads-into, blocks-past, parts-past, leads-to_part}
 
 -- the p-th part of a table: its first block, and the ends of its blocks
 pub record InPart (now : OpenTable) (p first : ℕ) (ends : List RunEnd) : Type 0 where
@@ -73,40 +71,6 @@ here now p first i ends is part low =
       inside = inside;
       at = sym (between-at now.ends first part.top.end i (omega (arith, long, low))) ∙ ap (λ (es : List RunEnd). slice_get es i) (sym part.are) ∙ inside;
     }
-
--- its entries are in order
-pub block-ordered : (now : OpenTable) (p first i start : ℕ) (ends : List RunEnd) (items : List Entry) → IsOpenTable now → InPart now p first ends
-    → InBlock now first (length ends) i start items → IsOrdered items
-block-ordered now p first i start ends items is part block =
-    elim (cases_lt i (length ends)) [
-      | inl low ↦
-          let h = here now p first i ends is part low in
-          let items_are = block.are low h.b h.at ∙ ap (λ (n : ℕ). between now.entries n h.b.end) block.begins in
-          subst IsOrdered (sym items_are) (block-has AreEntries 0 now.ends now.entries (first + i) h.b is.blocks h.at).ordered
-      | inr high ↦ subst IsOrdered (sym (block.none high)) tt
-    ]
-
--- they end within the entries of all
-pub block-within : (now : OpenTable) (p first i start : ℕ) (ends : List RunEnd) (items : List Entry) → IsOpenTable now → InPart now p first ends
-    → InBlock now first (length ends) i start items → start + length items ≤ length now.entries
-block-within now p first i start ends items is part block =
-    elim (cases_lt i (length ends)) [
-      | inl low ↦
-          let h = here now p first i ends is part low in
-          let within = run-within 0 now.ends (length now.entries) (first + i) h.b is.ends h.at in
-          let long = ap length (block.are low h.b h.at) ∙ length-between now.entries start h.b.end (omega (arith, within.1, block.begins)) within.2 in
-          omega (arith, block.begins, long, within.1, within.2)
-      | inr high ↦
-          let none = ap length (block.none high) in
-          let most = ends-within now p first ends is part in
-          let within = start-within 0 now.ends (length now.entries) (first + i) is.ends (omega (arith, most, block.low)) in
-          omega (arith, block.begins, none, within)
-    ]
-
-pub passed-within : (test : Entry → Bool) (now : OpenTable) (p first i start : ℕ) (ends : List RunEnd) (items : List Entry) → IsOpenTable now → InPart now p first ends
-    → InBlock now first (length ends) i start items → start + count_by test items ≤ length now.entries
-passed-within test now p first i start ends items is part block =
-    omega (arith, block-within now p first i start ends items is part block, count_by-le-length test items)
 
 -- ---- what is passed
 
@@ -176,26 +140,3 @@ pub in_part : (now : OpenTable) (p first : ℕ) (ends : List RunEnd)
     → (top : RunEnd) × (slice_get now.tops p ≡ Some top) × (first ≡ start_at 0 now.tops p) × (ends ≡ take (top.end - first) (drop first now.ends))
     → InPart now p first ends
 in_part now p first ends (top, at, begins, are) = record { top = top; at = at; begins = begins; are = are }
-
--- what is told of a block of it
-pub in_block : (now : OpenTable) (first count i start : ℕ) (items : List Entry) (ends : List RunEnd) (p : RunEnd → Bool) → count ≡ length ends → i ≡ count_by p ends
-    → start ≡ start_at 0 now.ends (first + i)
-    → (i < count → (b : RunEnd) → slice_get now.ends (first + i) ≡ Some b → items ≡ take (b.end - start) (drop start now.entries))
-    → (count ≤ i → items ≡ []) → InBlock now first (length ends) i start items
-in_block now first count i start items ends p long is begins entries none =
-    subst (λ (n : ℕ). InBlock now first n i start items) long
-    (record { low = omega (arith, long, is, count_by-le-length p ends); begins = begins; are = entries; none = none })
-
--- how many separators of the top block are before is counted on the table
-pub counted : (table now : OpenTable) (tops : List RunEnd) (user : List ℕ) (t p : ℕ) → table ≡ now → tops ≡ table.tops
-    → p ≡ before (is_separator_before user t) tops → p ≡ before (is_separator_before user t) now.tops
-counted table now tops user t p same are count =
-    count ∙ ap (before (is_separator_before user t)) (are ∙ ap (λ (t : OpenTable). t.tops) same)
-
--- what is passed on the way to a target
-pub passed-so : (now : OpenTable) (user : List ℕ) (t : ℕ) (test : Entry → Bool) (p first i start : ℕ) (ends : List RunEnd) (items : List Entry) → IsOpenTable now
-    → InPart now p first ends → InBlock now first (length ends) i start items → p ≡ before (is_separator_before user t) now.tops
-    → i ≡ before (is_separator_before user t) ends → Some (start + count_by test items) ≡ passed_in (is_separator_before user t) test (parts_of now)
-passed-so now user t test p first i start ends items is part block many count =
-    passes (is_separator_before user t) test now p first i start ends items is part block (before-falls user t now.tops is.separators.ordered) many
-    (before-falls user t ends (ends-separate now p first ends is part).ordered) count

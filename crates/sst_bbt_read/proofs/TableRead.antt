@@ -1,11 +1,13 @@
 -- What the code of a reader reads of its table: where its runs begin, and what stands in them.
-use Rattle.std.proofs.Common.{◌≡◌, ℕ, suc, ◌<◌, ◌≤◌, List, length, slice_get, slice_index_or, nat_lt, true, Some, refl, sym, ap, ◌∙◌, subst, inl, inr, arith}
+use Rattle.std.proofs.Common.{◌≡◌, ℕ, suc, ◌+◌, ◌<◌, ◌≤◌, List, length, slice_get, slice_index_or, nat_lt, true, Some, refl, sym, ap, ◌∙◌, subst, inl, inr, arith}
 use Rattle.std.proofs.lemmas.Bool.{cases_lt, le-ltb}
 use Rattle.std.proofs.lemmas.Option.{same_Some, slice_get_read}
 use Rattle.sst_key.specs.declared.entries.Entry.{Entry}
-use Rattle.sst_bbt_read.specs.TableBlocks.{OpenTable, AreEnds, start_at}
+use Rattle.sst_key.specs.Entry.{IsOrdered}
+use Rattle.sst_bbt_read.specs.TableBlocks.{OpenTable, IsOpenTable, AreEnds, AreEntries, start_at}
 use Rattle.sst_bbt_read.specs.declared.kept_table.RunEnd.{RunEnd}
-use Rattle.sst_bbt_read.proofs.RunEnds.{between, behind-at, run-within}
+use Rattle.sst_bbt_read.proofs.RunEnds.{between, length-between, behind-at, run-within, start-within}
+use Rattle.sst_bbt_read.proofs.WayOfParts.{block-has}
 
 -- a run begins where the one before ends
 pub begins-behind : (runs : List RunEnd) (i before : ℕ) (b : RunEnd) → i ≤ length runs → i ≡ suc before → b ≡ slice_index_or runs before b
@@ -55,3 +57,29 @@ top-read tops items i top same low at =
       | inl less ↦ ap (λ (rs : List RunEnd). slice_get rs i) (sym same) ∙ slice_get_read items (length items) i top refl less at
       | inr high ↦ let not = le-ltb i (length items) high in absurd (cc)
     ]
+
+-- the entries of a block are in order, and end within those of all
+pub entries-ordered : (table : OpenTable) (i start : ℕ) (b : RunEnd) (runs : List RunEnd) (items : List Entry) → IsOpenTable table → runs ≡ table.ends
+    → start ≡ start_at 0 runs i → items ≡ table.entries → slice_get table.ends i ≡ Some b → IsOrdered (between items start b.end)
+entries-ordered table i start b runs items is same begins are at =
+    let from : start ≡ start_at 0 table.ends i = begins ∙ ap (λ (rs : List RunEnd). start_at 0 rs i) same in
+    let all = ap (λ (n : ℕ). between items n b.end) from ∙ ap (λ (es : List Entry). between es (start_at 0 table.ends i) b.end) are in
+    subst IsOrdered (sym all) (block-has AreEntries 0 table.ends table.entries i b is.blocks at).ordered
+
+pub entries-within : (table now : OpenTable) (i start : ℕ) (b : RunEnd) (runs : List RunEnd) (items : List Entry) → table ≡ now → IsOpenTable table → runs ≡ table.ends
+    → start ≡ start_at 0 runs i → items ≡ table.entries → slice_get table.ends i ≡ Some b → start + length (between items start b.end) ≤ length now.entries
+entries-within table now i start b runs items same is runs_are begins are at =
+    let ends = bounds runs table.ends (length table.entries) start i b is.ends runs_are begins at in
+    let many = ap length are in
+    let all = ap (λ (t : OpenTable). length t.entries) same in
+    let long = length-between items start b.end ends.0 (omega (arith, ends.1, many)) in
+    omega (arith, long, ends.0, ends.1, all)
+
+-- what stands at the end of a block does too
+pub start-read : (table now : OpenTable) (runs : List RunEnd) (start i : ℕ) → table ≡ now → IsOpenTable table → runs ≡ table.ends → start ≡ start_at 0 runs i
+    → i ≤ length now.ends → start ≤ length now.entries
+start-read table now runs start i same is runs_are begins low =
+    let own = subst IsOpenTable same is in
+    let from : start ≡ start_at 0 now.ends i = begins ∙ ap (λ (rs : List RunEnd). start_at 0 rs i) (runs_are ∙ ap (λ (t : OpenTable). t.ends) same) in
+    let within = start-within 0 now.ends (length now.entries) i own.ends low in
+    omega (arith, from, within)

@@ -85,7 +85,8 @@ pub fn runs_before_seek_for_prev(runs: &[RunEnd], user: &[u8], seq: u64) -> usiz
 /// How many entries are before the target.
 pub fn below(entries: &[Entry], user: &[u8], seq: u64) -> usize
     requires { IsOrdered entries.now }
-    ensures { result ≡ machine.below entries.now user.now seq }
+    ensures count { result ≡ machine.below entries.now user.now seq }
+    ensures within { result ≤ length entries.now }
 {
     entries.partition_point(|entry| target_cmp(entry, user, seq).is_lt())
 }
@@ -93,7 +94,8 @@ pub fn below(entries: &[Entry], user: &[u8], seq: u64) -> usize
 /// How many entries are before the target or at it.
 pub fn up_to(entries: &[Entry], user: &[u8], seq: u64) -> usize
     requires { IsOrdered entries.now }
-    ensures { result ≡ machine.up_to entries.now user.now seq }
+    ensures count { result ≡ machine.up_to entries.now user.now seq }
+    ensures within { result ≤ length entries.now }
 {
     entries.partition_point(|entry| target_cmp(entry, user, seq).is_le())
 }

@@ -1,11 +1,11 @@
 //! The moves of a place over the list of a table's entries, None for nowhere.
 ghost use Rattle.std.specs.Prelude.{◌≡◌, ℕ, ◌+◌, ◌-◌, ◌<◌, ◌≤◌, List, [], length, take, drop, Option, None, Some, IfSome, IfNone, option_and_then, slice_get};
 ghost use Rattle.std.specs.Option.{is_some};
-ghost use Rattle.sst_key.specs.Entry.{entry_of};
+ghost use Rattle.sst_key.specs.Entry.{IsOrdered, entry_of};
 ghost use Rattle.sst_key.specs.ListMachine as machine;
 ghost use Rattle.sst_key.specs.declared.calls.Call.TheVariants as call;
 ghost use Rattle.sst_bbt_read.specs.Cursors.{IsPlace, Comes};
-ghost use Rattle.sst_bbt_read.specs.TableBlocks.{parts_of, start_at};
+ghost use Rattle.sst_bbt_read.specs.TableBlocks.{AreSeparators, parts_of, start_at};
 ghost use Rattle.sst_bbt_read.specs.declared.kept_table.RunEnd.{RunEnd as run_end};
 ghost use Rattle.sst_bbt_spec.specs.Parts.{stored_in};
 ghost use Rattle.sst_bbt_spec.specs.PartWay.{answer_in_parts, get_in_parts, seek_in_parts, seek_for_prev_in_parts, seek_passed_in, prev_passed_in};
@@ -65,6 +65,8 @@ impl KeptTable {
         ensures none { IfNone result (length self.now.tops ≤ i) }
         ensures some { IfSome result (λ p. (top : run_end) × (slice_get self.now.tops i ≡ Some top) × (p.0 ≡ start_at 0 self.now.tops i)
             × (p.1.now ≡ take (top.end - p.0) (drop p.0 self.now.ends))) }
+        ensures separators { IfSome result (λ p. AreSeparators p.1.now) }
+        ensures within { IfSome result (λ p. p.0 + length p.1.now ≤ length self.now.ends) }
     {
         let top = self.tops.get(i)?;
         let first = start_of(self.tops.as_slice(), i);
@@ -77,6 +79,8 @@ impl KeptTable {
         ensures start { result.0 ≡ start_at 0 self.now.ends i }
         ensures entries { (end : run_end) → slice_get self.now.ends i ≡ Some end
             → result.1.now ≡ take (end.end - result.0) (drop result.0 self.now.entries) }
+        ensures ordered { IsOrdered result.1.now }
+        ensures within { result.0 + length result.1.now ≤ length self.now.entries }
     {
         let start = start_of(self.ends.as_slice(), i);
         let end = self.ends[i].end;
@@ -92,6 +96,8 @@ impl KeptTable {
         ensures entries { i < count → (end : run_end) → slice_get self.now.ends (first + i) ≡ Some end
             → result.1.now ≡ take (end.end - result.0) (drop result.0 self.now.entries) }
         ensures none { count ≤ i → result.1.now ≡ [] }
+        ensures ordered { IsOrdered result.1.now }
+        ensures within { result.0 + length result.1.now ≤ length self.now.entries }
     {
         if i < count {
             self.block(first + i)
