@@ -18,12 +18,12 @@ use Rattle.sst_bbt_spec.specs.PartWay.{or_all, seek_passed_in, prev_passed_in, s
 use Rattle.sst_bbt_spec.specs.FoundParts.{FoundBlock, FoundPart, Place, Landing, then_open, opened, entry_in, AreFound, IsFound, AllFound, IsNumbered, AreNumbered, LandsAt}
 use Rattle.sst_bbt_spec.specs.Landings.{seek_landing, seek_for_prev_landing, place_if, of_user, first_from, last_from, forward_from, back_from, landing_of}
 use Rattle.sst_bbt_spec.specs.PartRuns.{SeparateParts}
-use Rattle.sst_bbt_spec.specs.PartsOpen.{IndexForm, StandsInForm}
+use Rattle.sst_bbt_spec.specs.BlockBased.{BlockBased}
 use Rattle.sst_bbt_spec.proofs.PlacesNumbered.{Lands, lands-as, within, At, tree-numbers, lands-at}
 use Rattle.sst_bbt_spec.proofs.FoundForward.{first-parts, seek-parts, forward-parts}
 use Rattle.sst_bbt_spec.proofs.FoundBack.{last-parts, prev-parts, back-parts}
 use Rattle.sst_bbt_spec.proofs.PartLaws.{part-answer, shown-none}
-use Rattle.sst_bbt_spec.proofs.StandsInParts.{opened-seqs, in_parts-separate}
+use Rattle.sst_bbt_spec.proofs.Stands.{opens-seqs, stands-separate}
 
 -- ---- the entry at a place
 
@@ -290,14 +290,14 @@ way-lands_in_list mark found parts position number call all at apart seqs =
     subst (λ (a : Answer). LandsAt parts (landing_of mark found position call) a.shown) (part-answer mark parts number call apart seqs)
     (way-lands mark found parts position number call all at)
 
-pub way-lands_in_file : {F : Type 0} (file : List ℕ) (form : IndexForm) (entries : List Entry) (stands : StandsInForm file form entries)
+pub way-lands_in_file : {F : Type 0} (file : List ℕ) (entries : List Entry) (stands : BlockBased file entries)
     (found : List (FoundPart F)) (position : Option Place) (number : Option ℕ) (call : Call)
     → AllFound found stands.parts → AreNumbered stands.parts position number
     → LandsAt stands.parts (landing_of None found position call) (answer_of Block 0 entries number call).shown
-way-lands_in_file file form entries stands found position number call all at =
+way-lands_in_file file entries stands found position number call all at =
     let is : shown_in None stands.parts ≡ entries = shown-none (stored_in stands.parts) ∙ stands.runs.joined_is in
     subst (λ (es : List Entry). LandsAt stands.parts (landing_of None found position call) (answer_of Block 0 es number call).shown) is
-    (way-lands_in_list None found stands.parts position number call all at (in_parts-separate file form entries stands) (opened-seqs file form stands.parts stands.opens))
+    (way-lands_in_list None found stands.parts position number call all at (stands-separate file entries stands) (opens-seqs file stands.parts stands.opens))
 
 -- no fault ends a way there
 pub no-fault : {F : Type 0} (mark : Option ℕ) (found : List (FoundPart F)) (parts : List Part) (position : Option Place) (number : Option ℕ) (call : Call) (fault : F)

@@ -1,5 +1,4 @@
 pub mod EntriesOfRows
-pub mod HandlesOnce
 pub mod OneList
 pub mod SeparatedBlocks
 pub mod Separating
@@ -11,9 +10,7 @@ pub mod RowsOf
 pub mod MarkFollows
 pub mod PartLaws
 pub mod PartOrder
-pub mod OnePairs
 pub mod PartsLead
-pub mod StandsInParts
 pub mod WholeIndex
 pub mod UserKeys
 pub mod SeparatorsFirst

@@ -4,17 +4,19 @@ use Rattle.sst_num.specs.declared.block_handle.Handle.{Handle}
 use Rattle.sst_key.specs.declared.entries.Entry.{Entry}
 use Rattle.sst_block.specs.declared.row_form.RowForm.TheVariants.{Entries}
 use Rattle.sst_block.specs.IndexRows.{IndexPair, IndexRows}
-use Rattle.sst_device.specs.Framed.{Framed}
+use Rattle.sst_block.proofs.OneReading.{one-pairs}
 use Rattle.sst_meta.specs.BlockFooter.{footer_start}
+use Rattle.sst_meta.specs.IndexForms.{index_form}
+use Rattle.sst_meta.specs.declared.index_form.IndexForm.{IndexForm}
 use Rattle.sst_meta.specs.declared.loading.Loaded.{Loaded}
 use Rattle.sst_meta.proofs.LoadsRead.{load-one}
 use Rattle.sst_bbt_spec.specs.Rows.{rows_of}
 use Rattle.sst_bbt_spec.specs.Way.{IndexedBlock}
 use Rattle.sst_bbt_spec.specs.Parts.{Part, stored_in}
-use Rattle.sst_bbt_spec.specs.PartsOpen.{IndexForm, HoldsEntries, LeadToBlocks, LeadsWithin, LeadToParts, PartsOpen, StandsInForm}
+use Rattle.sst_bbt_spec.specs.BlockBased.{BlockBased, Opens}
+use Rattle.sst_bbt_spec.specs.IndexLeads.{HoldsEntries, SaysPairs, LeadToBlocks, LeadsWithin, LeadToParts}
 use Rattle.sst_bbt_spec.proofs.EntriesOfRows.{rows_of-one, entries-ordered}
 use Rattle.sst_bbt_spec.proofs.OneList.{framed-one, block-made}
-use Rattle.sst_bbt_spec.proofs.OnePairs.{pairs-one}
 use Rattle.sst_bbt_spec.proofs.PartOrder.{IsSoundPart, AreSoundParts}
 use Rattle.sst_bbt_spec.proofs.SeparatedBlocks.{IsSound, AreSound}
 
@@ -42,13 +44,13 @@ part-led : (parted : Bool) (file : List ℕ) (end : ℕ) (form : IndexForm) (pai
     → LeadsWithin parted file end form pair part.blocks → IsSoundPart part
 part-led true file end form pair part held =
     record {
-      some = blocks-some file end form.has_user_keys held.pairs part.blocks held.lead held.holds.some;
-      blocks = blocks-sound file end form.has_user_keys held.pairs part.blocks held.lead;
+      some = blocks-some file end form.user_key held.pairs part.blocks held.lead held.holds.some;
+      blocks = blocks-sound file end form.user_key held.pairs part.blocks held.lead;
     }
 part-led false file end form pair part lead =
     record {
-      some = blocks-some file end form.has_user_keys (pair ∷ []) part.blocks lead (omega arith);
-      blocks = blocks-sound file end form.has_user_keys (pair ∷ []) part.blocks lead;
+      some = blocks-some file end form.user_key (pair ∷ []) part.blocks lead (omega arith);
+      blocks = blocks-sound file end form.user_key (pair ∷ []) part.blocks lead;
     }
 
 pub parts-sound : (file : List ℕ) (end : ℕ) (form : IndexForm) (pairs : List IndexPair) (parts : List Part)
@@ -57,7 +59,7 @@ parts-sound file end form [] [] lead = tt
 parts-sound file end form [] (part ∷ parts) lead = cc
 parts-sound file end form (pair ∷ pairs) [] lead = absurd lead
 parts-sound file end form (pair ∷ pairs) (part ∷ parts) lead =
-    (part-led form.is_parted file end form pair part lead.1, parts-sound file end form pairs parts lead.2)
+    (part-led form.parted file end form pair part lead.1, parts-sound file end form pairs parts lead.2)
 
 -- ---- one
 
@@ -77,21 +79,20 @@ blocks-one file end user_keys (pair ∷ pairs) (x ∷ a) (y ∷ b) left right =
     let tail = blocks-one file end user_keys pairs a b left.2 right.2 in
     ap (λ (e : IndexedBlock). e ∷ a) head ∙ ap (λ (l : List IndexedBlock). y ∷ l) tail
 
--- the pairs of the framed index block at a handle
-index-one : (user_key delta : Bool) (file : List ℕ) (end : ℕ) (h g : Handle) (x y : List ℕ) (a b : List IndexPair) → h ≡ g
-    → Framed file end h x → Framed file end g y → IndexRows user_key delta x a → IndexRows user_key delta y b → a ≡ b
-index-one user_key delta file end h g x y a b same at_x at_y left right =
-    let there : Framed file end h y = subst (λ (i : Handle). Framed file end i y) (sym same) at_y in
-    let bytes : y ≡ x = sym there.stands ∙ at_x.stands in
-    pairs-one user_key delta x a b left (subst (λ (l : List ℕ). IndexRows user_key delta l b) bytes right)
+-- the pairs of the index block at a handle
+pub says-one : (file : List ℕ) (end : ℕ) (form : IndexForm) (handle : Handle) (a b : List IndexPair) → SaysPairs file end form handle a
+    → SaysPairs file end form handle b → a ≡ b
+says-one file end form handle a b left right =
+    let bytes : right.block ≡ left.block = sym right.framed.stands ∙ left.framed.stands in
+    one-pairs form.user_key form.delta left.block a b left.rows (subst (λ (l : List ℕ). IndexRows form.user_key form.delta l b) bytes right.rows)
 
 within-one : (parted : Bool) (file : List ℕ) (end : ℕ) (form : IndexForm) (pair : IndexPair) (a b : List IndexedBlock)
     → LeadsWithin parted file end form pair a → LeadsWithin parted file end form pair b → a ≡ b
 within-one true file end form pair a b left right =
-    let pairs = index-one form.has_user_keys form.has_differences file end pair.handle pair.handle left.holds.block right.holds.block left.pairs right.pairs refl left.holds.framed right.holds.framed left.holds.rows right.holds.rows in
-    blocks-one file end form.has_user_keys left.pairs a b left.lead
-    (subst (λ (all : List IndexPair). LeadToBlocks file end form.has_user_keys all b) (sym pairs) right.lead)
-within-one false file end form pair a b left right = blocks-one file end form.has_user_keys (pair ∷ []) a b left right
+    let pairs = says-one file end form pair.handle left.pairs right.pairs left.holds.says right.holds.says in
+    blocks-one file end form.user_key left.pairs a b left.lead
+    (subst (λ (all : List IndexPair). LeadToBlocks file end form.user_key all b) (sym pairs) right.lead)
+within-one false file end form pair a b left right = blocks-one file end form.user_key (pair ∷ []) a b left right
 
 pub part-made : (a b : List ℕ) (xs ys : List IndexedBlock) → a ≡ b → xs ≡ ys
     → ◌≡◌ {A = Part} (record { separator = a; blocks = xs }) (record { separator = b; blocks = ys })
@@ -103,21 +104,30 @@ parts-one file end form [] a b left right = left ∙ sym right
 parts-one file end form (pair ∷ pairs) [] b left right = absurd left
 parts-one file end form (pair ∷ pairs) (x ∷ a) [] left right = absurd right
 parts-one file end form (pair ∷ pairs) (x ∷ a) (y ∷ b) left right =
-    let blocks = within-one form.is_parted file end form pair x.blocks y.blocks left.1 right.1 in
+    let blocks = within-one form.parted file end form pair x.blocks y.blocks left.1 right.1 in
     let head : x ≡ y = part-made x.separator y.separator x.blocks y.blocks (sym left.0 ∙ right.0) blocks in
     let tail = parts-one file end form pairs a b left.2 right.2 in
     ap (λ (p : Part). p ∷ a) head ∙ ap (λ (l : List Part). y ∷ l) tail
 
--- the file opens to one list of parts, and stands for one list of entries
-pub parts_open-one : (file : List ℕ) (form : IndexForm) (a b : List Part) → PartsOpen file form a → PartsOpen file form b → a ≡ b
-parts_open-one file form a b left right =
-    let loaded = load-one file left.loaded right.loaded left.meta right.meta in
-    let handles : left.loaded.footer.index ≡ right.loaded.footer.index = ap (λ (l : Loaded). l.footer.index) loaded in
-    let pairs = index-one form.has_user_keys form.has_differences file (footer_start file) left.loaded.footer.index right.loaded.footer.index left.top right.top left.pairs right.pairs handles left.framed right.framed left.rows right.rows in
-    let there : LeadToParts file (footer_start file) form left.pairs b = subst (λ (all : List IndexPair). LeadToParts file (footer_start file) form all b) (sym pairs) right.lead in
-    parts-one file (footer_start file) form left.pairs a b left.lead there
+-- ---- the file opens to one list of parts, and stands for one list of entries
 
-pub stands_in-one : (file : List ℕ) (form : IndexForm) (a b : List Entry) → StandsInForm file form a → StandsInForm file form b → a ≡ b
-stands_in-one file form a b left right =
-    let parts = parts_open-one file form left.parts right.parts left.opens right.opens in
+-- the index as some loaded properties and footer tell it
+abbrev pub SaysAll : List ℕ → List IndexPair → Loaded → Type 0
+SaysAll file pairs loaded = SaysPairs file (footer_start file) (index_form loaded.props) loaded.footer.index pairs
+
+abbrev pub LeadAll : List ℕ → List Part → List IndexPair → Loaded → Type 0
+LeadAll file parts pairs loaded = LeadToParts file (footer_start file) (index_form loaded.props) pairs parts
+
+pub opens-one : (file : List ℕ) (a b : List Part) → Opens file a → Opens file b → a ≡ b
+opens-one file a b left right =
+    let loaded = load-one file left.loaded right.loaded left.meta right.meta in
+    let there : SaysAll file right.pairs left.loaded = subst (SaysAll file right.pairs) (sym loaded) right.top in
+    let pairs = says-one file (footer_start file) (index_form left.loaded.props) left.loaded.footer.index left.pairs right.pairs left.top there in
+    let lead : LeadAll file b right.pairs left.loaded = subst (LeadAll file b right.pairs) (sym loaded) right.lead in
+    parts-one file (footer_start file) (index_form left.loaded.props) left.pairs a b left.lead
+    (subst (λ (all : List IndexPair). LeadAll file b all left.loaded) (sym pairs) lead)
+
+pub stands-one : (file : List ℕ) (a b : List Entry) → BlockBased file a → BlockBased file b → a ≡ b
+stands-one file a b left right =
+    let parts = opens-one file left.parts right.parts left.opens right.opens in
     sym left.runs.joined_is ∙ ap stored_in parts ∙ right.runs.joined_is

@@ -1,6 +1,6 @@
 -- Separators that separate stand between the ends of the blocks; and a key between the last key of one block and the first
 -- of the next separates the two.
-use Rattle.std.proofs.Common.{◌≡◌, ◌≢◌, ℕ, ◌<◌, List, [], ◌∷◌, ◌++◌, length, All, refl, sym, ap, ◌∙◌, subst, append_assoc, arith}
+use Rattle.std.proofs.Common.{◌≡◌, ◌≢◌, ℕ, ◌<◌, List, [], ◌∷◌, ◌++◌, length, All, sym, ap, ◌∙◌, subst, append_assoc, arith}
 use Rattle.std.proofs.lemmas.List.{append-nil, map-append}
 use Rattle.std.proofs.lemmas.List.Elements.{All-nil, All-head}
 use Rattle.std.specs.declared.cmp.Ordering.TheVariants.{Less, Greater}
@@ -11,10 +11,8 @@ use Rattle.sst_block.specs.Builder.{last_key}
 use Rattle.sst_block.proofs.Steps.{last_key-more}
 use Rattle.sst_bbt_spec.specs.Rows.{HasSeq, row_of, rows_of}
 use Rattle.sst_bbt_spec.specs.Runs.{AreSeparated, BeginsAfter, IsAfterAll}
-use Rattle.sst_bbt_spec.specs.BlockBased.{BlockBased, Opens}
 use Rattle.sst_bbt_spec.specs.Way.{IndexedBlock, IsUpToSeparator, IsAfterSeparator, Separate, joined}
 use Rattle.sst_bbt_spec.proofs.SeparatedBlocks.{AreSound}
-use Rattle.sst_bbt_spec.proofs.Stands.{lead-sound}
 use Rattle.sst_bbt_spec.proofs.UpToSeparator.{all-upto, all-after}
 use Rattle.sst_bbt_spec.proofs.WayLaws.{All-front, All-back}
 
@@ -49,17 +47,6 @@ pub separated-from_separate : (blocks : List IndexedBlock) → AreSound blocks �
 separated-from_separate [] sound apart = tt
 separated-from_separate (block ∷ rest) sound apart =
     (some-upto block.separator block.entries sound.0.some apart.0, after-from_all block.separator rest apart.1, separated-from_separate rest sound.1 apart.2)
-
-pub separated-stands : (file : List ℕ) (blocks : List IndexedBlock) → Opens file blocks → Separate blocks → BlockBased file (joined blocks)
-separated-stands file blocks opens apart =
-    record {
-      blocks = blocks;
-      opens = opens;
-      runs = record {
-        separated = separated-from_separate blocks (lead-sound file _ opens.index_rows blocks opens.lead) apart;
-        joined_is = refl;
-      };
-    }
 
 -- ---- a key between two blocks
 

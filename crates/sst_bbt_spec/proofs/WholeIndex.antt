@@ -1,27 +1,23 @@
--- A whole index is parts of one block each: calls answer the same, and the file opens to them and stands for the same list.
-use Rattle.std.proofs.Common.{◌≡◌, ℕ, ◌+◌, ◌^◌, ◌<◌, Bool, true, false, cond, List, [], ◌∷◌, ◌++◌, length, map, All, count_by, slice_get, Option, None, Some, option_and_then, refl, sym, ap, ◌∙◌, subst}
+-- A whole index is parts of one block each: calls answer the same, and its separators separate alike.
+use Rattle.std.proofs.Common.{◌≡◌, ℕ, ◌+◌, Bool, true, false, cond, List, [], ◌∷◌, ◌++◌, length, map, count_by, slice_get, Option, None, Some, option_and_then, refl, sym, ap, ◌∙◌, subst}
 use Rattle.std.specs.Option.{option_map}
 use Rattle.std.proofs.lemmas.List.{append-nil}
-use Rattle.std.proofs.lemmas.List.Elements.{All-head, All-tail}
-use Rattle.sst_num.specs.declared.block_handle.Handle.{Handle}
 use Rattle.sst_key.specs.declared.entries.Entry.{Entry}
 use Rattle.sst_key.specs.declared.calls.Call.{Call}
 use Rattle.sst_key.specs.declared.calls.Call.TheVariants.{Get, First, Last, Seek, SeekForPrev, Next, Prev}
 use Rattle.sst_key.specs.ListMachine.{is_before_target, is_up_to_target, is_of_user, where_passes, place_in, first_of, last_of, steps_on, shows, lands}
-use Rattle.sst_block.specs.declared.row_form.RowForm.TheVariants.{Index}
-use Rattle.sst_block.specs.Block.{Row, IsRow, no_handle}
 use Rattle.sst_block.specs.IndexRows.{IndexPair}
 use Rattle.sst_meta.specs.BlockFooter.{footer_start}
+use Rattle.sst_meta.specs.IndexForms.{index_form}
+use Rattle.sst_meta.specs.declared.index_form.IndexForm.{IndexForm}
 use Rattle.sst_bbt_spec.specs.Way.{IndexedBlock, joined, passed, last_passed, is_separator_before, seek_tag, seek_for_prev_tag, way_seek, way_get, way_seek_for_prev, way_answer, way_replies_from}
-use Rattle.sst_bbt_spec.specs.Runs.{Lead, AreSeparated, BeginsAfter, IsAfterAll}
-use Rattle.sst_bbt_spec.specs.BlockBased.{BlockBased, Opens}
+use Rattle.sst_bbt_spec.specs.Runs.{AreSeparated, BeginsAfter, IsAfterAll}
+use Rattle.sst_bbt_spec.specs.BlockBased.{Opens}
 use Rattle.sst_bbt_spec.specs.Parts.{Part, whole_of, alone, stored_in, separator_of}
 use Rattle.sst_bbt_spec.specs.Mark.{shown_in}
 use Rattle.sst_bbt_spec.specs.PartWay.{or_all, passed_in, seek_passed_in, prev_passed_in, seek_in_parts, get_in_parts, seek_for_prev_in_parts, answer_in_parts, replies_in_parts_from}
 use Rattle.sst_bbt_spec.specs.PartRuns.{ArePartsSeparated}
-use Rattle.sst_bbt_spec.specs.PartsOpen.{IndexForm, plain_index, HoldsEntries, LeadToBlocks, LeadsWithin, LeadToParts, PartsOpen, StandsInForm}
-use Rattle.sst_bbt_spec.proofs.HandlesOnce.{handle-once}
-use Rattle.sst_bbt_spec.proofs.OnePairs.{RowsSay, rows-said, index-rows_say}
+use Rattle.sst_bbt_spec.specs.IndexLeads.{LeadToBlocks, LeadsWithin, LeadToParts}
 use Rattle.sst_bbt_spec.proofs.PartLaws.{shown-none}
 use Rattle.sst_bbt_spec.proofs.PartOrder.{key-same}
 use Rattle.sst_bbt_spec.proofs.PartsLead.{part-made}
@@ -83,76 +79,6 @@ replies-alone blocks position (call ∷ calls) =
     let same = answer-alone blocks position call in
     rw same (ap (λ l. way_answer blocks position call ∷ l) (replies-alone blocks (way_answer blocks position call).position calls))
 
--- ---- from index rows to pairs
-
-record LedPairs (file : List ℕ) (end : ℕ) (rows : List Row) (blocks : List IndexedBlock) : Type 0 where
-  pub pairs : List IndexPair
-  pub say : RowsSay rows pairs
-  pub lead : LeadToParts file end plain_index pairs (map alone blocks)
-
-led-pairs : (file : List ℕ) (end : ℕ) (rows : List Row) (blocks : List IndexedBlock) → All (IsRow (Index false false)) rows
-    → Lead file end rows blocks → LedPairs file end rows blocks
-led-pairs file end [] [] forms lead = record { pairs = []; say = refl; lead = refl }
-led-pairs file end [] (block ∷ blocks) forms lead = cc
-led-pairs file end (row ∷ rows) [] forms lead = absurd lead
-led-pairs file end (row ∷ rows) (block ∷ blocks) forms lead =
-    let more = led-pairs file end rows blocks (All-tail (IsRow (Index false false)) row rows forms) lead.2 in
-    let is = (All-head (IsRow (Index false false)) row rows forms).1.1 in
-    let led = lead.1 in
-    let same : is.0 ≡ led.handle = handle-once is.0 led.handle (sym is.3 ∙ led.value) in
-    let held : HoldsEntries file end led.handle block.entries =
-    record { block = led.block; framed = led.framed; rows = led.rows; some = led.some; seqs = led.seqs } in
-    record {
-      pairs = record { separator = row.key; handle = led.handle } ∷ more.pairs;
-      say = (refl, subst (λ (h : Handle). h.offset < 2 ^ 64) same is.1, subst (λ (h : Handle). h.size < 2 ^ 64) same is.2, led.value, more.say);
-      lead = (lead.0, (lead.0, held, refl), more.lead);
-    }
-
-pub open-alone : (file : List ℕ) (blocks : List IndexedBlock) → Opens file blocks → PartsOpen file plain_index (map alone blocks)
-open-alone file blocks opens =
-    let led = led-pairs file (footer_start file) opens.index_rows blocks opens.index_is.forms opens.lead in
-    record {
-      loaded = opens.loaded;
-      meta = opens.meta;
-      top = opens.index_block;
-      pairs = led.pairs;
-      framed = opens.framed;
-      rows = record {
-        rows = opens.index_rows;
-        block = opens.index_is;
-        says = rows-said no_handle opens.index_is.spelled led.pairs (subst (λ (all : List Row). RowsSay all led.pairs) (sym opens.index_is.are_rows) led.say);
-      };
-      lead = led.lead;
-    }
-
--- ---- and back
-
-rows-lead : (file : List ℕ) (end : ℕ) (rows : List Row) (pairs : List IndexPair) (blocks : List IndexedBlock) → RowsSay rows pairs
-    → LeadToParts file end plain_index pairs (map alone blocks) → Lead file end rows blocks
-rows-lead file end [] [] [] say lead = refl
-rows-lead file end [] [] (block ∷ blocks) say lead = cc
-rows-lead file end [] (pair ∷ pairs) blocks say lead = cc
-rows-lead file end (row ∷ rows) [] blocks say lead = absurd say
-rows-lead file end (row ∷ rows) (pair ∷ pairs) [] say lead = absurd lead
-rows-lead file end (row ∷ rows) (pair ∷ pairs) (block ∷ blocks) say lead =
-    let held = lead.1.1 in (
-      say.0 ∙ lead.0,
-      record { handle = pair.handle; block = held.block; value = say.3; framed = held.framed; rows = held.rows; some = held.some; seqs = held.seqs },
-      rows-lead file end rows pairs blocks say.4 lead.2,
-    )
-
-pub alone-open : (file : List ℕ) (blocks : List IndexedBlock) → PartsOpen file plain_index (map alone blocks) → Opens file blocks
-alone-open file blocks opens =
-    record {
-      loaded = opens.loaded;
-      meta = opens.meta;
-      index_block = opens.top;
-      index_rows = opens.rows.rows;
-      framed = opens.framed;
-      index_is = opens.rows.block;
-      lead = rows-lead file (footer_start file) opens.rows.rows opens.pairs blocks (index-rows_say false opens.top opens.pairs opens.rows) opens.lead;
-    }
-
 -- ---- the parts of a whole index have one block each
 
 abbrev pub AreAlone : List Part → Type 0
@@ -166,22 +92,22 @@ one-block file end user_keys pair separator (block ∷ rest) top lead =
     (block, part-made separator block.separator (block ∷ rest) (block ∷ []) (sym top ∙ lead.0) (ap (λ (l : List IndexedBlock). block ∷ l) lead.2))
 
 within-alone : (parted : Bool) (file : List ℕ) (end : ℕ) (form : IndexForm) (pair : IndexPair) (part : Part) → parted ≡ false
-    → separator_of form.has_user_keys pair.separator ≡ part.separator → LeadsWithin parted file end form pair part.blocks
+    → separator_of form.user_key pair.separator ≡ part.separator → LeadsWithin parted file end form pair part.blocks
     → (block : IndexedBlock) × (part ≡ alone block)
 within-alone true file end form pair part is top lead = cc
-within-alone false file end form pair part is top lead = one-block file end form.has_user_keys pair part.separator part.blocks top lead
+within-alone false file end form pair part is top lead = one-block file end form.user_key pair part.separator part.blocks top lead
 
-led-alone : (file : List ℕ) (end : ℕ) (form : IndexForm) (pairs : List IndexPair) (parts : List Part) → form.is_parted ≡ false
+led-alone : (file : List ℕ) (end : ℕ) (form : IndexForm) (pairs : List IndexPair) (parts : List Part) → form.parted ≡ false
     → LeadToParts file end form pairs parts → AreAlone parts
 led-alone file end form [] parts is lead = ([], lead)
 led-alone file end form (pair ∷ pairs) [] is lead = absurd lead
 led-alone file end form (pair ∷ pairs) (part ∷ parts) is lead =
-    let here = within-alone form.is_parted file end form pair part is lead.0 lead.1 in
+    let here = within-alone form.parted file end form pair part is lead.0 lead.1 in
     let more = led-alone file end form pairs parts is lead.2 in
     (here.0 ∷ more.0, ap (λ (p : Part). p ∷ parts) here.1 ∙ ap (λ (l : List Part). alone here.0 ∷ l) more.1)
 
-pub opens-alone : (file : List ℕ) (form : IndexForm) (parts : List Part) → form.is_parted ≡ false → PartsOpen file form parts → AreAlone parts
-opens-alone file form parts is opens = led-alone file (footer_start file) form opens.pairs parts is opens.lead
+pub opens-alone : (file : List ℕ) (parts : List Part) (opens : Opens file parts) → (index_form opens.loaded.props).parted ≡ false → AreAlone parts
+opens-alone file parts opens is = led-alone file (footer_start file) (index_form opens.loaded.props) opens.pairs parts is opens.lead
 
 -- ---- the list that runs through them
 
@@ -193,34 +119,11 @@ alone-begins : (separator : List ℕ) (blocks : List IndexedBlock) → IsAfterAl
 alone-begins separator [] after = tt
 alone-begins separator (block ∷ rest) after = subst (λ (es : List Entry). BeginsAfter separator es) (append-nil block.entries) after
 
-alone-separated : (blocks : List IndexedBlock) → AreSeparated blocks → ArePartsSeparated (map alone blocks)
+pub alone-separated : (blocks : List IndexedBlock) → AreSeparated blocks → ArePartsSeparated (map alone blocks)
 alone-separated [] apart = tt
 alone-separated (block ∷ rest) apart =
     ((apart.0, tt, tt), key-same block.separator, begins-alone block.separator rest apart.1, alone-separated rest apart.2)
 
-separated-alone : (blocks : List IndexedBlock) → ArePartsSeparated (map alone blocks) → AreSeparated blocks
+pub separated-alone : (blocks : List IndexedBlock) → ArePartsSeparated (map alone blocks) → AreSeparated blocks
 separated-alone [] apart = tt
 separated-alone (block ∷ rest) apart = (apart.0.0, alone-begins block.separator rest apart.2, separated-alone rest apart.3)
-
-pub stand-alone : (file : List ℕ) (entries : List Entry) → BlockBased file entries → StandsInForm file plain_index entries
-stand-alone file entries stands =
-    record {
-      parts = map alone stands.blocks;
-      opens = open-alone file stands.blocks stands.opens;
-      runs = record {
-        separated = alone-separated stands.blocks stands.runs.separated;
-        joined_is = stored-alone stands.blocks ∙ stands.runs.joined_is;
-      };
-    }
-
-pub alone-stand : (file : List ℕ) (entries : List Entry) → StandsInForm file plain_index entries → BlockBased file entries
-alone-stand file entries stands =
-    let are = opens-alone file plain_index stands.parts refl stands.opens in
-    record {
-      blocks = are.0;
-      opens = alone-open file are.0 (subst (λ (parts : List Part). PartsOpen file plain_index parts) are.1 stands.opens);
-      runs = record {
-        separated = separated-alone are.0 (subst ArePartsSeparated are.1 stands.runs.separated);
-        joined_is = sym (stored-alone are.0) ∙ ap stored_in (sym are.1) ∙ stands.runs.joined_is;
-      };
-    }

@@ -6,8 +6,9 @@ use Rattle.std.specs.Prelude.{◌≡◌, ℕ, suc, Bool, true, false, List, [], 
 use Rattle.sst_num.specs.declared.block_handle.Handle.{Handle}
 use Rattle.sst_key.specs.declared.entries.Entry.{Entry}
 use Rattle.sst_block.specs.IndexRows.{IndexPair}
+use Rattle.sst_meta.specs.declared.index_form.IndexForm.{IndexForm}
 use Rattle.sst_bbt_spec.specs.Parts.{separator_of}
-use Rattle.sst_bbt_spec.specs.PartsOpen.{IndexForm, HoldsEntries, HoldsPairs}
+use Rattle.sst_bbt_spec.specs.IndexLeads.{HoldsEntries, HoldsPairs}
 use Rattle.sst_bbt_spec.specs.FoundParts.{FoundBlock, FoundPart, then_open}
 
 -- How the blocks of a file are read: the entries of the data block at a handle, the pairs of the index block at a
@@ -48,8 +49,8 @@ abbrev pub found_parts : {F : Type 0} → Reading F → IndexForm → Handle →
 found_parts reading form top row [] = []
 found_parts reading form top row (pair ∷ pairs) =
     record {
-      separator = separator_of form.has_user_keys pair.separator;
-      blocks = found_within form.is_parted reading form.has_user_keys top row pair;
+      separator = separator_of form.user_key pair.separator;
+      blocks = found_within form.parted reading form.user_key top row pair;
       misplaced = reading.misplaced top row;
     }
     ∷ found_parts reading form top (suc row) pairs

@@ -9,12 +9,15 @@ ghost use Rattle.sst_key.specs.declared.calls.Format.TheVariants.{Block};
 ghost use Rattle.sst_key.specs.ListMachine.{answer_of};
 ghost use Rattle.sst_block.specs.IndexRows.{IndexPair};
 ghost use Rattle.sst_meta.specs.BlockFooter.{footer_start};
+ghost use Rattle.sst_meta.specs.IndexForms.{index_form};
+ghost use Rattle.sst_meta.specs.declared.index_form.IndexForm.{IndexForm};
 ghost use Rattle.sst_bbt_spec.specs.Rows.{HasSeq};
 ghost use Rattle.sst_bbt_spec.specs.Parts.{Part, stored_in};
 ghost use Rattle.sst_bbt_spec.specs.Mark.{shown_in};
 ghost use Rattle.sst_bbt_spec.specs.PartWay.{answer_in_parts};
 ghost use Rattle.sst_bbt_spec.specs.PartRuns.{SeparateParts};
-ghost use Rattle.sst_bbt_spec.specs.PartsOpen.{IndexForm, LeadToParts, StandsInForm};
+ghost use Rattle.sst_bbt_spec.specs.BlockBased.{BlockBased};
+ghost use Rattle.sst_bbt_spec.specs.IndexLeads.{LeadToParts};
 ghost use Rattle.sst_bbt_spec.specs.FoundParts.{FoundPart, Place, AllFound, IsNumbered, AreNumbered, LandsAt, entry_in};
 ghost use Rattle.sst_bbt_spec.specs.FoundTree.{Reading, IsExact, found_parts};
 ghost use Rattle.sst_bbt_spec.specs.Landings.{landing_of, seek_landing, seek_for_prev_landing};
@@ -49,14 +52,14 @@ pub fn places_and_numbers_tell_each_other()
 
 /// Where the tree stands for a list, the way of each call ends at the entry that the list shows, Get included.
 ///
-/// `apart`: where the separators separate, with any mark. `stands`: on a file that stands for a list by a form of its
-/// index, where its parts are found without a fault.
+/// `apart`: where the separators separate, with any mark. `stands`: on a file that stands for a list, where its
+/// parts are found without a fault.
 /// RocksDB: as above, and `BlockBasedTable::Get` in table/block_based/block_based_table_reader.cc.
 pub fn each_way_ends_at_the_entry_of_the_list()
     ensures apart { (mark : Option ℕ) (found : List (FoundPart ℕ)) (parts : List Part) (position : Option Place) (number : Option ℕ) (call : Call)
         → AllFound found parts → AreNumbered parts position number → SeparateParts parts → All HasSeq (stored_in parts)
         → LandsAt parts (landing_of mark found position call) (answer_of Block 0 (shown_in mark parts) number call).shown }
-    ensures stands { (file : List ℕ) (form : IndexForm) (entries : List Entry) (stands : StandsInForm file form entries)
+    ensures stands { (file : List ℕ) (entries : List Entry) (stands : BlockBased file entries)
         (found : List (FoundPart ℕ)) (position : Option Place) (number : Option ℕ) (call : Call)
         → AllFound found stands.parts → AreNumbered stands.parts position number
         → LandsAt stands.parts (landing_of None found position call) (answer_of Block 0 entries number call).shown }
@@ -90,16 +93,17 @@ pub fn a_fault_ends_the_way()
 /// Where reading is exact, the parts of an index are found without a fault exactly where its rows lead to them.
 ///
 /// `found`: what the rows lead to is found. `lead`: and what is found without a fault is what they lead to. `way`: so
-/// on a file that stands for a list by a form of its index, the way of each call through what is read ends at the
-/// entry that the list shows. RocksDB: `BlockBasedTable::NewDataBlockIterator` in
+/// on a file that stands for a list, the way of each call through what is read ends at the entry that the list shows. RocksDB: `BlockBasedTable::NewDataBlockIterator` in
 /// table/block_based/block_based_table_reader_impl.h.
 pub fn parts_are_found_where_they_lead()
     ensures found { (reading : Reading ℕ) (file : List ℕ) (end : ℕ) (form : IndexForm) (top : Handle) (row : ℕ) (pairs : List IndexPair) (parts : List Part)
         → IsExact reading file end form → LeadToParts file end form pairs parts → AllFound (found_parts reading form top row pairs) parts }
     ensures lead { (reading : Reading ℕ) (file : List ℕ) (end : ℕ) (form : IndexForm) (top : Handle) (row : ℕ) (pairs : List IndexPair) (parts : List Part)
         → IsExact reading file end form → AllFound (found_parts reading form top row pairs) parts → LeadToParts file end form pairs parts }
-    ensures way { (reading : Reading ℕ) (file : List ℕ) (form : IndexForm) (entries : List Entry) (stands : StandsInForm file form entries)
-        (position : Option Place) (number : Option ℕ) (call : Call) → IsExact reading file (footer_start file) form → AreNumbered stands.parts position number
-        → LandsAt stands.parts (landing_of None (found_parts reading form stands.opens.loaded.footer.index 0 stands.opens.pairs) position call)
+    ensures way { (reading : Reading ℕ) (file : List ℕ) (entries : List Entry) (stands : BlockBased file entries)
+        (position : Option Place) (number : Option ℕ) (call : Call) → IsExact reading file (footer_start file) (index_form stands.opens.loaded.props)
+        → AreNumbered stands.parts position number
+        → LandsAt stands.parts (landing_of None
+        (found_parts reading (index_form stands.opens.loaded.props) stands.opens.loaded.footer.index 0 stands.opens.pairs) position call)
         (answer_of Block 0 entries number call).shown }
 {}

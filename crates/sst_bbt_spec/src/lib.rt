@@ -15,9 +15,9 @@
 //! - A block is framed: behind it stand a type byte and the checksum of both (`Framed`, `sst_device`).
 //! - What the file says of itself is `Meta` (`sst_meta`): the footer, the metaindex, the properties.
 //! - Each row of a whole index leads to a data block: its key is the separator of the block, its value the block's
-//!   handle (`Lead`, specs/Runs.antt).
+//!   handle (`LeadToBlocks`, specs/IndexLeads.antt).
 //! - The entries of all data blocks, in the order of the index, are the list. No key of a block is after its separator,
-//!   and each key of the blocks behind it is (`Runs`, specs/Runs.antt; `BlockBased`, specs/BlockBased.antt).
+//!   and each key of the blocks behind it is (`AreSeparated`, specs/Runs.antt; `BlockBased`, specs/BlockBased.antt).
 //!
 //! # Example
 //!
@@ -43,7 +43,9 @@
 //! # An index in parts
 //!
 //! A large index is cut into parts, which are index blocks themselves. The footer then leads to the top block, whose
-//! rows lead to the parts, whose rows lead to the data blocks: a tree (`Part`, specs/Parts.antt).
+//! rows lead to the parts, whose rows lead to the data blocks: a tree (`Part`, specs/Parts.antt; `LeadToParts`,
+//! specs/IndexLeads.antt). Whether an index has parts, and what its separators and handles are, the properties tell
+//! (`index_form`, `sst_meta`), whatever the version of the file.
 //!
 //! ```text
 //! | data | data | data | data | part | part | top block | properties | metaindex | footer |
@@ -81,21 +83,14 @@
 //!
 //! # Promises
 //!
-//! - A file opens to one list of data blocks at most, and stands for one list of entries at most
-//!   ([`a_file_stands_for_one_list`]); this list is in order ([`what_a_file_stands_for_is_ordered`]).
-//! - What the seven calls answer by the index lookup (`way_answer`, specs/Way.antt) is what they answer of the list,
-//!   where the separators separate the blocks ([`the_way_is_the_lists`]), and so on each file that stands for a list
-//!   ([`a_file_that_stands_is_separated`]).
-//! - A file that opens to blocks which its separators separate stands for their list ([`a_separated_file_stands`]);
-//!   each key between the last key of a block and the first of the next separates the two
-//!   ([`a_key_between_separates`]).
-//!
-//! The same of an index of any form, told from outside for now (`PartsOpen` and `StandsInForm`, specs/PartsOpen.antt):
-//!
-//! - By one form a file opens to one tree at most, and stands for one list at most ([`an_index_leads_to_one_tree`]);
-//!   this list is in order, and its separators separate ([`what_stands_in_parts_is_ordered`]). A tree whose
-//!   separators separate stands for its list ([`a_separated_tree_runs`]). A whole index is parts of one block each,
-//!   in what it answers and in what it stands for ([`a_whole_index_is_parts_of_one_block`]).
+//! - A file opens to one list of parts at most, and stands for one list of entries at most, over all forms of its index
+//!   ([`a_file_stands_for_one_list`]). This list is in order, the separators separate, and so calls are answered on the file as
+//!   the list answers ([`what_a_file_stands_for_is_ordered`]).
+//! - A file that opens to parts which its separators separate stands for their entries ([`a_separated_file_stands`]); each key
+//!   between the last key of a block and the first of the next separates the two ([`a_key_between_separates`]).
+//! - A whole index is parts of one block each ([`a_whole_index_is_parts_of_one_block`]). What the seven calls answer by its rows
+//!   (`way_answer`, specs/Way.antt) is what they answer of the list, where the separators separate the blocks
+//!   ([`the_way_is_the_lists`]).
 //! - What the seven calls answer by the tree (`answer_in_parts`, specs/PartWay.antt) is what they answer of the list,
 //!   where the separators separate; with a mark, one sequence number for all entries, too
 //!   ([`the_way_over_parts_is_the_lists`]).
@@ -122,17 +117,14 @@ mod laws;
 mod part_laws;
 
 pub use form_laws::{
-    a_separated_tree_runs, a_whole_index_is_parts_of_one_block, an_index_leads_to_one_tree,
-    what_stands_in_parts_is_ordered,
+    a_file_stands_for_one_list, a_separated_file_stands, a_whole_index_is_parts_of_one_block,
+    what_a_file_stands_for_is_ordered,
 };
 pub use found_laws::{
     a_fault_ends_the_way, a_way_without_a_fault_is_counted, each_way_ends_at_the_entry_of_the_list,
     parts_are_found_where_they_lead, places_and_numbers_tell_each_other,
 };
-pub use laws::{
-    a_file_stands_for_one_list, a_file_that_stands_is_separated, a_key_between_separates,
-    a_separated_file_stands, the_way_is_the_lists, what_a_file_stands_for_is_ordered,
-};
+pub use laws::{a_key_between_separates, the_way_is_the_lists};
 pub use part_laws::{
     separators_before_a_target_come_first, the_tree_decides, the_way_over_parts_is_the_lists,
     user_keys_are_compared_alone,

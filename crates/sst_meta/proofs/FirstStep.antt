@@ -188,7 +188,7 @@ rules-first file props fault has clear e =
     (λ is. (delta_flag, record { fails = flag-at file name.IndexValueIsDeltaEncoded _ fault (λ value at not. (value, (props, has, at), not)) is; first = f }))
     (λ delta e.
     let h = clear-next file delta_flag f (λ another f. rule-passes _ another delta (delta-read file props another has f)) in
-    (form_is_read, record { fails = form-at file props fault has user delta e; first = h })))))))
+    (form_is_read, record { fails = form-at file props fault has e; first = h })))))))
 
 -- a fault on the way to the properties, or of them
 lead-first : (file : List ℕ) (end : ℕ) (names : List Row) (o : Option (List ℕ)) (fault : MetaFault) → HasNames file end names

@@ -9,8 +9,8 @@ use Rattle.hex.specs.Hex.{IsBytes}
 use Rattle.sst_meta.specs.BlockFooter.{IsOtherTable, FooterLeads, footer_start}
 use Rattle.sst_meta.specs.Footer.{legacy_block_based_magic, plain_magic, legacy_plain_magic, cuckoo_magic}
 use Rattle.sst_meta.specs.FooterReading.{last_bytes}
-use Rattle.sst_meta.specs.LoadReading.{fixed_in, varint_in, load_read}
-use Rattle.sst_meta.specs.Meta.{LeadsToProps, Meta}
+use Rattle.sst_meta.specs.LoadReading.{fixed_in, load_read}
+use Rattle.sst_meta.specs.Meta.{LeadsToProps, IsIndexType, IsFlag, Meta}
 use Rattle.sst_meta.specs.MetaFaults.{IsHandleOf, HasProps, HasValue, IsBadValue, IsMissing, IsNotYet, ShowsMeta}
 use Rattle.sst_meta.specs.Names.{name_bytes, range_tombstones, comparator}
 use Rattle.sst_meta.specs.Pairs.{value_of}
@@ -23,7 +23,7 @@ use Rattle.sst_meta.proofs.BlocksRead.{no-frame_fault, no-block_fault}
 use Rattle.sst_meta.proofs.FirstStep.{load-shown}
 use Rattle.sst_meta.proofs.LoadsRead.{handle-fits, load-sound}
 use Rattle.sst_meta.proofs.SaidOnce.{ends-good, ends-with, no-other, names-once, props-good, reached-rows}
-use Rattle.sst_meta.proofs.ValuesRead.{fixed_in-fixed, varint_in-varint}
+use Rattle.sst_meta.proofs.ValuesRead.{fixed_in-fixed}
 
 -- it isn't another kind of table
 no-other_table : (file : List ℕ) (end : ℕ) (metaindex index : Handle) → FooterLeads file end metaindex index → IsOtherTable file → ⊥
@@ -40,25 +40,21 @@ fixed-once m n fits_m fits_n same =
     let read : Some m ≡ Some n = sym (fixed_in-fixed 4 m fits_m) ∙ ap (fixed_in 4) same ∙ fixed_in-fixed 4 n fits_n in
     cc
 
-varint-once : (m n : ℕ) → m < 2 ^ 64 → n < 2 ^ 64 → varint m ≡ varint n → m ≡ n
-varint-once m n fits_m fits_n same =
-    let read : Some m ≡ Some n = sym (varint_in-varint m fits_m) ∙ ap varint_in same ∙ varint_in-varint n fits_n in
-    cc
-
 -- what a good property says of its value
 said : (P : List ℕ → Type 0) (o : Option (List ℕ)) (value : List ℕ) → IfSome o P → o ≡ Some value → P value
 said P None value good is = cc
 said P (Some v) value good is = let same : v ≡ value = cc in subst P same good
 
 -- the value of a type of the index that is good
-index_type-low : (n : ℕ) → 1 < n → n < 256 ^ 4 → (fixed 4 n ≡ fixed 4 0) ⊎ (fixed 4 n ≡ fixed 4 1) → ⊥
+index_type-low : (n : ℕ) → 2 < n → n < 256 ^ 4 → IsIndexType (fixed 4 n) → ⊥
 index_type-low n large fits (inl same) = let is = fixed-once n 0 fits (omega arith) same in omega arith
-index_type-low n large fits (inr same) = let is = fixed-once n 1 fits (omega arith) same in omega arith
+index_type-low n large fits (inr (inl same)) = let is = fixed-once n 1 fits (omega arith) same in omega arith
+index_type-low n large fits (inr (inr same)) = let is = fixed-once n 2 fits (omega arith) same in omega arith
 
-no-index_type : (file : List ℕ) (loaded : Loaded) (n : ℕ) → 1 < n → n < 256 ^ 4 → Meta file loaded → HasValue file (name_bytes name.IndexType) (fixed 4 n) → ⊥
+no-index_type : (file : List ℕ) (loaded : Loaded) (n : ℕ) → 2 < n → n < 256 ^ 4 → Meta file loaded → HasValue file (name_bytes name.IndexType) (fixed 4 n) → ⊥
 no-index_type file loaded n large fits m has =
     let good = props-good file loaded has.0 m has.1 in
-    index_type-low n large fits (said _ (value_of (name_bytes name.IndexType) has.0) (fixed 4 n) good.index_type has.2)
+    index_type-low n large fits (said IsIndexType (value_of (name_bytes name.IndexType) has.0) (fixed 4 n) good.index_type has.2)
 
 -- it isn't marked
 no-mark : (file : List ℕ) (loaded : Loaded) (props : List Row) → Meta file loaded → HasProps file props
@@ -70,12 +66,13 @@ no-mark file loaded props m has marked =
     omega arith
 
 -- no value has another form than it must have
-no-bad_flag : (value : List ℕ) → value ≡ varint 0 → ((n : ℕ) → n < 2 ^ 64 → value ≡ varint n → ⊥) → ⊥
-no-bad_flag value is not = not 0 (omega arith) is
+no-bad_flag : (value : List ℕ) → IsFlag value → ((n : ℕ) → n < 2 ^ 64 → value ≡ varint n → ⊥) → ⊥
+no-bad_flag value is not = not is.0 is.1 is.2
 
-no-bad_type : (value : List ℕ) → (value ≡ fixed 4 0) ⊎ (value ≡ fixed 4 1) → ((type : ℕ) → type < 2 ^ 32 → value ≡ fixed 4 type → ⊥) → ⊥
+no-bad_type : (value : List ℕ) → IsIndexType value → ((type : ℕ) → type < 2 ^ 32 → value ≡ fixed 4 type → ⊥) → ⊥
 no-bad_type value (inl same) not = not 0 (omega arith) same
-no-bad_type value (inr same) not = not 1 (omega arith) same
+no-bad_type value (inr (inl same)) not = not 1 (omega arith) same
+no-bad_type value (inr (inr same)) not = not 2 (omega arith) same
 
 no-bad_lead : (file : List ℕ) (end : ℕ) (value : List ℕ) (props : Option (List Row)) → end < 2 ^ 40 → LeadsToProps file end (Some value) props
     → ((handle : Handle) → IsHandleOf handle value → ⊥) → ⊥
@@ -93,17 +90,17 @@ no-bad_value file loaded name.Properties m bad =
     (subst (λ (o : Option (List ℕ)). LeadsToProps file (footer_start file) o loaded.props) value m.props) bad.5
 no-bad_value file loaded name.IndexType m bad =
     let good = props-good file loaded bad.1.0 m bad.1.1 in
-    no-bad_type bad.0 (said _ (value_of (name_bytes name.IndexType) bad.1.0) bad.0 good.index_type bad.1.2) bad.2
+    no-bad_type bad.0 (said IsIndexType (value_of (name_bytes name.IndexType) bad.1.0) bad.0 good.index_type bad.1.2) bad.2
 no-bad_value file loaded name.GlobalSequence m bad = no-mark file loaded bad.0 m bad.2 bad.3
 no-bad_value file loaded name.ExternalVersion m bad =
     let good = props-good file loaded bad.1.0 m bad.1.1 in
     bad.2 (said _ (value_of (name_bytes name.ExternalVersion) bad.1.0) bad.0 good.unmarked bad.1.2)
 no-bad_value file loaded name.IndexKeyIsUserKey m bad =
     let good = props-good file loaded bad.1.0 m bad.1.1 in
-    no-bad_flag bad.0 (said _ (value_of (name_bytes name.IndexKeyIsUserKey) bad.1.0) bad.0 good.whole_keys bad.1.2) bad.2
+    no-bad_flag bad.0 (said IsFlag (value_of (name_bytes name.IndexKeyIsUserKey) bad.1.0) bad.0 good.user_key_flag bad.1.2) bad.2
 no-bad_value file loaded name.IndexValueIsDeltaEncoded m bad =
     let good = props-good file loaded bad.1.0 m bad.1.1 in
-    no-bad_flag bad.0 (said _ (value_of (name_bytes name.IndexValueIsDeltaEncoded) bad.1.0) bad.0 good.whole_handles bad.1.2) bad.2
+    no-bad_flag bad.0 (said IsFlag (value_of (name_bytes name.IndexValueIsDeltaEncoded) bad.1.0) bad.0 good.delta_flag bad.1.2) bad.2
 
 -- none is missing
 no-missing : (file : List ℕ) (loaded : Loaded) (n : Name) → Meta file loaded → IsMissing file n → ⊥
@@ -114,20 +111,10 @@ no-missing file loaded name.ExternalVersion m missing = missing
 no-missing file loaded name.IndexKeyIsUserKey m missing = missing
 no-missing file loaded name.IndexValueIsDeltaEncoded m missing = missing
 
--- no form is one that isn't read yet
-no-set : (n : ℕ) → 0 < n → n < 2 ^ 64 → varint n ≡ varint 0 → ⊥
-no-set n some fits same = let is = varint-once n 0 fits (omega arith) same in omega arith
-
+-- it is of no kind and no form that isn't read yet
 no-not_yet : (file : List ℕ) (loaded : Loaded) → Meta file loaded → IsNotYet file → ⊥
 no-not_yet file loaded m (inl other) = no-other_table file _ loaded.footer.meta loaded.footer.index m.leads other
-no-not_yet file loaded m (inr (inl two)) = no-index_type file loaded 2 (omega arith) (omega arith) m two
-no-not_yet file loaded m (inr (inr (inl set))) =
-    let good = props-good file loaded set.3.0 m set.3.1 in
-    no-set set.0 set.1 set.2 (said _ (value_of (name_bytes name.IndexKeyIsUserKey) set.3.0) (varint set.0) good.whole_keys set.3.2)
-no-not_yet file loaded m (inr (inr (inr (inl set)))) =
-    let good = props-good file loaded set.3.0 m set.3.1 in
-    no-set set.0 set.1 set.2 (said _ (value_of (name_bytes name.IndexValueIsDeltaEncoded) set.3.0) (varint set.0) good.whole_handles set.3.2)
-no-not_yet file loaded m (inr (inr (inr (inr mark)))) = no-mark file loaded mark.0 m mark.1 mark.2
+no-not_yet file loaded m (inr mark) = no-mark file loaded mark.0 m mark.1 mark.2
 
 pub no-meta_fault : (file : List ℕ) (loaded : Loaded) (fault : MetaFault) → Meta file loaded → ShowsMeta file fault → ⊥
 no-meta_fault file loaded meta.NotTable m shows = shows (inl (ends-with file _ loaded.footer.meta loaded.footer.index m.leads))

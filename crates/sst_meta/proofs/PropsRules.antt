@@ -3,7 +3,7 @@
 use Rattle.std.proofs.Common.{◌≡◌, ℕ, if◌then◌else◌, false, List, Option, None, Some, refl}
 use Rattle.sst_block.specs.Block.{Row}
 use Rattle.sst_device.proofs.Choices.{by_test}
-use Rattle.sst_meta.specs.LoadReading.{comparator_fault, index_type_fault, is_valued, is_marked, global_fault, external_fault, flag_fault, is_flag, props_fault}
+use Rattle.sst_meta.specs.LoadReading.{comparator_fault, index_type_fault, is_valued, is_marked, global_fault, external_fault, flag_fault, props_fault}
 use Rattle.sst_meta.specs.Meta.{AreGood}
 use Rattle.sst_meta.specs.Names.{name_bytes, comparator}
 use Rattle.sst_meta.specs.Pairs.{value_of}
@@ -12,33 +12,15 @@ use Rattle.sst_meta.specs.declared.meta_fault.MetaFault.{MetaFault}
 use Rattle.sst_meta.specs.declared.meta_fault.MetaFault.TheVariants as meta
 use Rattle.sst_meta.proofs.ValueRules.{or_else-none, comparator-good, comparator-none, index_type-good, index_type-none, global-good, external-good, external-none, flag-good, flag-none}
 
--- a form that isn't read yet, by the values
-abbrev forms : Option (List ℕ) → Option (List ℕ) → Option (List ℕ) → Option (List ℕ) → Option MetaFault
-forms index user delta external =
-    if is_valued 2 index then Some meta.NotYet
-    else if is_flag user then Some meta.NotYet
-    else if is_flag delta then Some meta.NotYet
-    else if is_marked external then Some meta.NotYet
-    else None
+-- a form that isn't read yet, by the version of a file that was made outside a database
+abbrev form : Option (List ℕ) → Option MetaFault
+form external = if is_marked external then Some meta.NotYet else None
 
-forms-none : (index user delta external : Option (List ℕ)) → is_valued 2 index ≡ false → is_flag user ≡ false → is_flag delta ≡ false → is_valued 2 external ≡ false
-    → forms index user delta external ≡ None
-forms-none index user delta external a b c d = rw (a, b, c, d) refl
+form-none : (external : Option (List ℕ)) → is_valued 2 external ≡ false → form external ≡ None
+form-none external e = rw e refl
 
--- none of the tests of a form
-record Plain (index user delta external : Option (List ℕ)) : Type 0 where
-  pub flat : is_valued 2 index ≡ false
-  pub stored : is_flag user ≡ false
-  pub handles : is_flag delta ≡ false
-  pub unmarked : is_valued 2 external ≡ false
-
-forms-plain : (index user delta external : Option (List ℕ)) → forms index user delta external ≡ None → Plain index user delta external
-forms-plain index user delta external e =
-    by_test (is_valued 2 index) (Some meta.NotYet) _ None e (λ _ e. cc)
-    (λ a e. by_test (is_flag user) (Some meta.NotYet) _ None e (λ _ e. cc)
-    (λ b e. by_test (is_flag delta) (Some meta.NotYet) _ None e (λ _ e. cc)
-    (λ c e. by_test (is_valued 2 external) (Some meta.NotYet) _ None e (λ _ e. cc)
-    (λ d e. record { flat = a; stored = b; handles = c; unmarked = d }))))
+form-unmarked : (external : Option (List ℕ)) → form external ≡ None → is_valued 2 external ≡ false
+form-unmarked external e = by_test (is_valued 2 external) (Some meta.NotYet) None None e (λ _ e. cc) (λ is _. is)
 
 -- good properties have no fault
 pub good-no_fault : (props : List Row) → AreGood props → props_fault props ≡ None
@@ -47,12 +29,10 @@ good-no_fault props good =
     let a = comparator-good (value_of comparator props) good.comparator_is in
     let b = index_type-good (value_of (name_bytes name.IndexType) props) good.index_type in
     let c = external-good (value_of (name_bytes name.ExternalVersion) props) good.unmarked in
-    let d = flag-good name.IndexKeyIsUserKey (value_of (name_bytes name.IndexKeyIsUserKey) props) good.whole_keys in
-    let f = flag-good name.IndexValueIsDeltaEncoded (value_of (name_bytes name.IndexValueIsDeltaEncoded) props) good.whole_handles in
+    let d = flag-good name.IndexKeyIsUserKey (value_of (name_bytes name.IndexKeyIsUserKey) props) good.user_key_flag in
+    let f = flag-good name.IndexValueIsDeltaEncoded (value_of (name_bytes name.IndexValueIsDeltaEncoded) props) good.delta_flag in
     let g = global-good (value_of (name_bytes name.ExternalVersion) props) (value_of (name_bytes name.GlobalSequence) props) c.1 in
-    let h = forms-none (value_of (name_bytes name.IndexType) props) (value_of (name_bytes name.IndexKeyIsUserKey) props)
-    (value_of (name_bytes name.IndexValueIsDeltaEncoded) props) (value_of (name_bytes name.ExternalVersion) props) b.1 d.1 f.1 c.1 in
-    rw (a, b.0, g, c.0, d.0, f.0) h
+    rw (a, b, g, c.0, d, f) (form-none (value_of (name_bytes name.ExternalVersion) props) c.1)
 
 -- properties without a fault are good
 pub no_fault-good : (props : List Row) → props_fault props ≡ None → AreGood props
@@ -64,12 +44,11 @@ no_fault-good props e =
     let d = or_else-none (external_fault (value_of (name_bytes name.ExternalVersion) props)) _ c.1 in
     let f = or_else-none (flag_fault name.IndexKeyIsUserKey (value_of (name_bytes name.IndexKeyIsUserKey) props)) _ d.1 in
     let g = or_else-none (flag_fault name.IndexValueIsDeltaEncoded (value_of (name_bytes name.IndexValueIsDeltaEncoded) props)) _ f.1 in
-    let plain = forms-plain (value_of (name_bytes name.IndexType) props) (value_of (name_bytes name.IndexKeyIsUserKey) props)
-    (value_of (name_bytes name.IndexValueIsDeltaEncoded) props) (value_of (name_bytes name.ExternalVersion) props) g.1 in
+    let unmarked = form-unmarked (value_of (name_bytes name.ExternalVersion) props) g.1 in
     record {
       comparator_is = comparator-none (value_of comparator props) a.0;
-      index_type = index_type-none (value_of (name_bytes name.IndexType) props) b.0 plain.flat;
-      whole_keys = flag-none name.IndexKeyIsUserKey (value_of (name_bytes name.IndexKeyIsUserKey) props) f.0 plain.stored;
-      whole_handles = flag-none name.IndexValueIsDeltaEncoded (value_of (name_bytes name.IndexValueIsDeltaEncoded) props) g.0 plain.handles;
-      unmarked = external-none (value_of (name_bytes name.ExternalVersion) props) d.0 plain.unmarked;
+      index_type = index_type-none (value_of (name_bytes name.IndexType) props) b.0;
+      user_key_flag = flag-none name.IndexKeyIsUserKey (value_of (name_bytes name.IndexKeyIsUserKey) props) f.0;
+      delta_flag = flag-none name.IndexValueIsDeltaEncoded (value_of (name_bytes name.IndexValueIsDeltaEncoded) props) g.0;
+      unmarked = external-none (value_of (name_bytes name.ExternalVersion) props) d.0 unmarked;
     }

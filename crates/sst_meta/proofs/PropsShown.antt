@@ -6,9 +6,9 @@ use Rattle.std.proofs.lemmas.Slice.Eq.{bytes_eq-Decides}
 use Rattle.sst_num.specs.Spelling.{fixed, varint}
 use Rattle.sst_block.specs.Block.{Row}
 use Rattle.sst_device.proofs.Choices.{by_test}
-use Rattle.sst_meta.specs.LoadReading.{fixed_in, varint_in, is_below, comparator_fault, index_type_by, index_type_fault, is_valued, global_fault, global_in, external_fault, flag_fault, is_flag, form_fault}
+use Rattle.sst_meta.specs.LoadReading.{fixed_in, varint_in, is_below, comparator_fault, index_type_by, index_type_fault, is_valued, global_fault, global_in, external_fault, flag_fault, form_fault}
 use Rattle.sst_meta.specs.LoadSteps.{key_order, index_type, global_sequence, external_version, form_is_read, FailsAt, IsShown}
-use Rattle.sst_meta.specs.MetaFaults.{HasProps, IsBadValue, IsOtherForm, ShowsMeta}
+use Rattle.sst_meta.specs.MetaFaults.{HasProps, IsBadValue, ShowsMeta}
 use Rattle.sst_meta.specs.Names.{name_bytes, comparator, bytewise}
 use Rattle.sst_meta.specs.Pairs.{value_of}
 use Rattle.sst_meta.specs.declared.name.Name.{Name}
@@ -16,7 +16,7 @@ use Rattle.sst_meta.specs.declared.name.Name.TheVariants as name
 use Rattle.sst_meta.specs.declared.meta_fault.MetaFault.{MetaFault}
 use Rattle.sst_meta.specs.declared.meta_fault.MetaFault.TheVariants as meta
 use Rattle.sst_meta.proofs.ValuesRead.{fixed_in-fixed, fixed_in-found, varint_in-varint}
-use Rattle.sst_meta.proofs.ValueRules.{is_valued-same, is_valued-found, flag-set}
+use Rattle.sst_meta.proofs.ValueRules.{is_valued-same, is_valued-found}
 
 -- the order of user keys
 pub comparator-at : (file : List ℕ) (props : List Row) (o : Option (List ℕ)) (fault : MetaFault) → HasProps file props → value_of comparator props ≡ o
@@ -107,22 +107,10 @@ flag-at file name (Some value) fault shows e =
     ] refl e
 
 -- a form that isn't read yet
-pub form-at : (file : List ℕ) (props : List Row) (fault : MetaFault) → HasProps file props
-    → flag_fault name.IndexKeyIsUserKey (value_of (name_bytes name.IndexKeyIsUserKey) props) ≡ None
-    → flag_fault name.IndexValueIsDeltaEncoded (value_of (name_bytes name.IndexValueIsDeltaEncoded) props) ≡ None
-    → form_fault props ≡ Some fault → FailsAt file form_is_read fault
-form-at file props fault has user delta e =
-    let fails : IsOtherForm file → meta.NotYet ≡ fault → FailsAt file form_is_read fault = λ is same. (sym same, is) in
-    by_test (is_valued 2 (value_of (name_bytes name.IndexType) props)) (Some meta.NotYet) _ (Some fault) e
-    (λ on e. fails (inl (props, has, is_valued-found 2 (value_of (name_bytes name.IndexType) props) on)) cc)
-    (λ _ e. by_test (is_flag (value_of (name_bytes name.IndexKeyIsUserKey) props)) (Some meta.NotYet) _ (Some fault) e
+pub form-at : (file : List ℕ) (props : List Row) (fault : MetaFault) → HasProps file props → form_fault props ≡ Some fault → FailsAt file form_is_read fault
+form-at file props fault has e =
+    by_test (is_valued 2 (value_of (name_bytes name.ExternalVersion) props)) (Some meta.NotYet) None (Some fault) e
     (λ on e.
-    let set = flag-set name.IndexKeyIsUserKey (value_of (name_bytes name.IndexKeyIsUserKey) props) user on in
-    fails (inr (inl (set.0, set.1, set.2, (props, has, set.3)))) cc)
-    (λ _ e. by_test (is_flag (value_of (name_bytes name.IndexValueIsDeltaEncoded) props)) (Some meta.NotYet) _ (Some fault) e
-    (λ on e.
-    let set = flag-set name.IndexValueIsDeltaEncoded (value_of (name_bytes name.IndexValueIsDeltaEncoded) props) delta on in
-    fails (inr (inr (inl (set.0, set.1, set.2, (props, has, set.3))))) cc)
-    (λ _ e. by_test (is_valued 2 (value_of (name_bytes name.ExternalVersion) props)) (Some meta.NotYet) None (Some fault) e
-    (λ on e. fails (inr (inr (inr (props, has, is_valued-found 2 (value_of (name_bytes name.ExternalVersion) props) on)))) cc)
-    (λ _ e. cc))))
+    let same : meta.NotYet ≡ fault = cc in
+    (sym same, (props, has, is_valued-found 2 (value_of (name_bytes name.ExternalVersion) props) on)))
+    (λ _ e. cc)

@@ -1,12 +1,13 @@
 -- The values of the properties that are looked at: which are good, and which have a fault.
-use Rattle.std.proofs.Common.{◌≡◌, ◌≢◌, ◌⊎◌, ℕ, zero, suc, ◌^◌, ◌<◌, ◌≤◌, ◌==◌, nat_lt, true, false, List, Option, None, Some, refl, ap, ◌∙◌, inl, inr, arith}
+use Rattle.std.proofs.Common.{◌≡◌, ◌⊎◌, ℕ, zero, suc, ◌^◌, ◌<◌, ◌≤◌, nat_lt, true, false, List, Option, None, Some, refl, ap, ◌∙◌, inl, inr, arith}
 use borrow.Author.Tests.{ltb-false}
 use Rattle.std.specs.Prelude.{IfSome, bytes_eq}
-use Rattle.std.proofs.lemmas.Bool.{eqb-true, eqb-false, eq-eqb, ne_eqb, both_ways}
+use Rattle.std.proofs.lemmas.Bool.{eqb-true, eq-eqb}
 use Rattle.std.proofs.lemmas.Slice.Eq.{bytes_eq-Decides}
-use Rattle.sst_num.specs.Spelling.{fixed, varint}
+use Rattle.sst_num.specs.Spelling.{fixed}
 use Rattle.sst_device.proofs.Choices.{by_test}
-use Rattle.sst_meta.specs.LoadReading.{fixed_in, varint_in, is_number, comparator_fault, index_type_by, index_type_fault, is_valued, global_fault, external_fault, flag_fault, is_flag, or_else}
+use Rattle.sst_meta.specs.LoadReading.{fixed_in, varint_in, is_number, comparator_fault, index_type_by, index_type_fault, is_valued, global_fault, external_fault, flag_fault, or_else}
+use Rattle.sst_meta.specs.Meta.{IsIndexType, IsFlag}
 use Rattle.sst_meta.specs.Names.{bytewise}
 use Rattle.sst_meta.specs.declared.name.Name.{Name}
 use Rattle.sst_meta.specs.declared.meta_fault.MetaFault.{MetaFault}
@@ -46,34 +47,37 @@ comparator-none (Some value) e =
     by_test (bytes_eq value bytewise) None (Some meta.Comparator) None e (λ is _. (bytes_eq-Decides value bytewise).0 is) (λ _ e. cc)
 
 -- the type of the index
-pub index_type-good : (o : Option (List ℕ)) → IfSome o (λ value. (value ≡ fixed 4 0) ⊎ (value ≡ fixed 4 1)) → (index_type_fault o ≡ None) × (is_valued 2 o ≡ false)
-index_type-good None good = (refl, refl)
-index_type-good (Some value) (inl same) =
-    let read : fixed_in 4 value ≡ Some 0 = ap (fixed_in 4) same ∙ fixed_in-fixed 4 0 (omega arith) in
-    (ap index_type_by read, ap (is_number 2) read)
-index_type-good (Some value) (inr same) =
-    let read : fixed_in 4 value ≡ Some 1 = ap (fixed_in 4) same ∙ fixed_in-fixed 4 1 (omega arith) in
-    (ap index_type_by read, ap (is_number 2) read)
+index_type-fits : (n : ℕ) (value : List ℕ) → nat_lt 2 n ≡ false → n < 256 ^ 4 → value ≡ fixed 4 n → index_type_fault (Some value) ≡ None
+index_type-fits n value small fits same =
+    let read : fixed_in 4 value ≡ Some n = ap (fixed_in 4) same ∙ fixed_in-fixed 4 n fits in
+    ap index_type_by read ∙ rw small refl
 
-below-two : (n : ℕ) → n ≤ 2 → n ≢ 2 → (n ≡ 0) ⊎ (n ≡ 1)
-below-two zero most other = inl refl
-below-two (suc zero) most other = inr refl
-below-two (suc (suc n)) most other = absurd (other (omega arith))
+pub index_type-good : (o : Option (List ℕ)) → IfSome o IsIndexType → index_type_fault o ≡ None
+index_type-good None good = refl
+index_type-good (Some value) (inl same) = index_type-fits 0 value refl (omega arith) same
+index_type-good (Some value) (inr (inl same)) = index_type-fits 1 value refl (omega arith) same
+index_type-good (Some value) (inr (inr same)) = index_type-fits 2 value refl (omega arith) same
 
-pub index_type-none : (o : Option (List ℕ)) → index_type_fault o ≡ None → is_valued 2 o ≡ false → IfSome o (λ value. (value ≡ fixed 4 0) ⊎ (value ≡ fixed 4 1))
-index_type-none None e flat = tt
-index_type-none (Some value) e flat =
-    elim (fixed_in 4 value) as (λ (q : Option ℕ). fixed_in 4 value ≡ q → index_type_by q ≡ None → is_number 2 q ≡ false → (value ≡ fixed 4 0) ⊎ (value ≡ fixed 4 1)) [
-      | None ↦ λ _ e _. cc
-      | Some type ↦ λ read e flat.
+up-to-two : (n : ℕ) → n ≤ 2 → (n ≡ 0) ⊎ (n ≡ 1) ⊎ (n ≡ 2)
+up-to-two zero most = inl refl
+up-to-two (suc zero) most = inr (inl refl)
+up-to-two (suc (suc n)) most = inr (inr (omega arith))
+
+pub index_type-none : (o : Option (List ℕ)) → index_type_fault o ≡ None → IfSome o IsIndexType
+index_type-none None e = tt
+index_type-none (Some value) e =
+    elim (fixed_in 4 value) as (λ (q : Option ℕ). fixed_in 4 value ≡ q → index_type_by q ≡ None → IsIndexType value) [
+      | None ↦ λ _ e. cc
+      | Some type ↦ λ read e.
           let is = (fixed_in-found 4 type value read).1 in
           by_test (nat_lt 2 type) (Some (meta.IndexType type)) None None e (λ _ e. cc)
           (λ small _.
-          elim (below-two type (ltb-false 2 type small) (eqb-false type 2 flat)) [
+          elim (up-to-two type (ltb-false 2 type small)) [
             | inl same ↦ inl (is ∙ ap (fixed 4) same)
-            | inr same ↦ inr (is ∙ ap (fixed 4) same)
+            | inr (inl same) ↦ inr (inl (is ∙ ap (fixed 4) same))
+            | inr (inr same) ↦ inr (inr (is ∙ ap (fixed 4) same))
           ])
-    ] refl e flat
+    ] refl e
 
 -- the sequence number of a file that isn't marked
 pub global-good : (external global : Option (List ℕ)) → is_valued 2 external ≡ false → global_fault external global ≡ None
@@ -95,48 +99,16 @@ external-none (Some value) e unmarked =
     (λ _ e. let f = rw unmarked at e in cc)
 
 -- a flag of the index
-pub flag-good : (name : Name) (o : Option (List ℕ)) → IfSome o (λ value. value ≡ varint 0) → (flag_fault name o ≡ None) × (is_flag o ≡ false)
-flag-good name None good = (refl, refl)
+pub flag-good : (name : Name) (o : Option (List ℕ)) → IfSome o IsFlag → flag_fault name o ≡ None
+flag-good name None good = refl
 flag-good name (Some value) good =
-    let read : varint_in value ≡ Some 0 = ap varint_in good ∙ varint_in-varint 0 (omega arith) in
-    (rw read refl, rw read refl)
+    let read : varint_in value ≡ Some good.0 = ap varint_in good.2 ∙ varint_in-varint good.0 good.1 in
+    rw read refl
 
--- what a flag is that has no fault
-data Flag (o : Option (List ℕ)) : Type 0 where
-  absent : o ≡ None → is_flag o ≡ false → Flag o
-  clear : o ≡ Some (varint 0) → is_flag o ≡ false → Flag o
-  set : (n : ℕ) → 0 < n → n < 2 ^ 64 → o ≡ Some (varint n) → is_flag o ≡ true → Flag o
-
-flag-by : (n : ℕ) (value : List ℕ) → varint_in value ≡ Some n → Flag (Some value)
-flag-by zero value read =
-    let found = varint_in-found 0 value read in
-    clear (ap Some found.1) (rw read refl)
-flag-by (suc n) value read =
-    let found = varint_in-found (suc n) value read in
-    let other : (suc n == 0) ≡ false = ne_eqb (suc n) 0 (λ same. omega arith) in
-    set (suc n) (omega arith) found.0 (ap Some found.1) (rw (read, other) refl)
-
-flag-is : (name : Name) (o : Option (List ℕ)) → flag_fault name o ≡ None → Flag o
-flag-is name None e = absent refl refl
-flag-is name (Some value) e =
-    elim (varint_in value) as (λ (q : Option ℕ). varint_in value ≡ q → flag_fault name (Some value) ≡ None → Flag (Some value)) [
+pub flag-none : (name : Name) (o : Option (List ℕ)) → flag_fault name o ≡ None → IfSome o IsFlag
+flag-none name None e = tt
+flag-none name (Some value) e =
+    elim (varint_in value) as (λ (q : Option ℕ). varint_in value ≡ q → flag_fault name (Some value) ≡ None → IsFlag value) [
       | None ↦ λ read e. let f = rw read at e in cc
-      | Some n ↦ λ read e. flag-by n value read
+      | Some n ↦ λ read e. let found = varint_in-found n value read in (n, found.0, found.1)
     ] refl e
-
-pub flag-none : (name : Name) (o : Option (List ℕ)) → flag_fault name o ≡ None → is_flag o ≡ false → IfSome o (λ value. value ≡ varint 0)
-flag-none name o e unset =
-    elim (flag-is name o e) [
-      | absent is _ ↦ rw is tt
-      | clear is _ ↦ rw is refl
-      | set n some fits is on ↦ absurd (both_ways (is_flag o) unset on)
-    ]
-
--- a flag that is set
-pub flag-set : (name : Name) (o : Option (List ℕ)) → flag_fault name o ≡ None → is_flag o ≡ true → (n : ℕ) × (0 < n) × (n < 2 ^ 64) × (o ≡ Some (varint n))
-flag-set name o e on =
-    elim (flag-is name o e) [
-      | absent _ unset ↦ absurd (both_ways (is_flag o) unset on)
-      | clear _ unset ↦ absurd (both_ways (is_flag o) unset on)
-      | set n some fits is _ ↦ (n, some, fits, is)
-    ]

@@ -1,11 +1,11 @@
 -- What a table file says of itself, as it is read, or the first thing that is wrong, in this order: the file's length;
 -- the kind of table; the footer; the metaindex; range tombstones; the properties; the order of user keys; then the names
--- that are looked at, in bytewise order. A form that isn't read yet comes last, but another kind of table comes as soon
--- as it is seen.
+-- that are looked at, in bytewise order. A global sequence number, which isn't read yet, comes last, but another kind of
+-- table comes as soon as it is seen.
 -- RocksDB: BlockBasedTable::Open, ReadPropertiesBlock and ReadRangeDelBlock in
 -- table/block_based/block_based_table_reader.cc; ReadTableProperties and FindMetaBlock in table/meta_blocks.cc. Which
 -- values are refused is this project's own.
-use Rattle.std.specs.Prelude.{ℕ, ◌^◌, ◌==◌, nat_lt, if◌then◌else◌, Bool, false, not, List, length, Option, None, Some, bytes_eq, Result, Ok, Err}
+use Rattle.std.specs.Prelude.{ℕ, ◌^◌, ◌==◌, nat_lt, if◌then◌else◌, Bool, false, List, length, Option, None, Some, bytes_eq, Result, Ok, Err}
 use Rattle.std.specs.Option.{is_some}
 use Rattle.sst_num.specs.NumberReading.{varint_at, fixed_at, handle_at}
 use Rattle.sst_num.specs.declared.block_handle.Handle.{Handle}
@@ -134,23 +134,12 @@ abbrev pub flag_fault : Name → Option (List ℕ) → Option MetaFault
 flag_fault name None = None
 flag_fault name (Some value) = if is_some (varint_in value) then None else Some (meta.BadProperty name)
 
--- the flag is set
--- RocksDB: table_properties.cc
--- Pinned by: properties_that_are_faults, what_files_say_of_themselves
-abbrev pub is_flag : Option (List ℕ) → Bool
-is_flag None = false
-is_flag (Some value) = not (is_number 0 (varint_in value))
-
--- a form that isn't read yet: an index of two levels, or one with user keys or differences, or a mark
+-- a form that isn't read yet: the file is marked
 -- Own, for now.
--- Pinned by: what_files_say_of_themselves
+-- Pinned by: properties_that_are_faults, what_files_say_of_themselves
 abbrev pub form_fault : List Row → Option MetaFault
 form_fault props =
-    if is_valued 2 (value_of (name_bytes name.IndexType) props) then Some meta.NotYet
-    else if is_flag (value_of (name_bytes name.IndexKeyIsUserKey) props) then Some meta.NotYet
-    else if is_flag (value_of (name_bytes name.IndexValueIsDeltaEncoded) props) then Some meta.NotYet
-    else if is_marked (value_of (name_bytes name.ExternalVersion) props) then Some meta.NotYet
-    else None
+    if is_marked (value_of (name_bytes name.ExternalVersion) props) then Some meta.NotYet else None
 
 -- one fault, or else another
 -- Pinned by: properties_that_are_faults
@@ -159,7 +148,7 @@ or_else None next = next
 or_else (Some fault) next = Some fault
 
 -- the first fault of the properties that are looked at: the order of user keys, then the others by their names, then a
--- form that isn't read yet
+-- mark, which isn't read yet
 -- Pinned by: properties_that_are_faults
 unfoldable pub props_fault : List Row → Option MetaFault
 props_fault props =

@@ -1,7 +1,7 @@
 -- What a block-based file says of itself where nothing is wrong: the footer, the metaindex and the properties.
 -- RocksDB: table/format.h (Footer), table/meta_blocks.h (MetaIndexBuilder, PropertyBlockBuilder),
--- include/rocksdb/table_properties.h; wiki page "Rocksdb BlockBasedTable Format". For now it isn't said of a file whose
--- index has two levels, user keys or differences, and of one with a global sequence number.
+-- include/rocksdb/table_properties.h; wiki page "Rocksdb BlockBasedTable Format". For now it isn't said of a file with a
+-- global sequence number.
 -- Pinned by: a_file_loads_as_it_says
 use Rattle.std.specs.Prelude.{◌≡◌, ◌⊎◌, ℕ, ◌^◌, ◌<◌, List, length, Option, None, Some, IfSome}
 use Rattle.sst_num.specs.Spelling.{fixed, varint, handle_spelling}
@@ -30,17 +30,29 @@ LeadsToProps file end (Some value) None = ⊥
 LeadsToProps file end (Some value) (Some props) =
     (handle : Handle) × (value ≡ handle_spelling handle) × HasPairs file end handle props
 
+-- the value is the type of an index: by binary search, by hash, or of two levels
+-- RocksDB: include/rocksdb/table.h, IndexType
+-- Pinned by: a_file_loads_as_it_says, properties_that_are_good
+abbrev pub IsIndexType : List ℕ → Type 0
+IsIndexType value = (value ≡ fixed 4 0) ⊎ (value ≡ fixed 4 1) ⊎ (value ≡ fixed 4 2)
+
+-- the value is a flag: the varint of a number of 64 bits, which is set where it isn't 0
+-- RocksDB: table/table_properties.cc
+-- Pinned by: a_file_loads_as_it_says, properties_that_are_good
+abbrev pub IsFlag : List ℕ → Type 0
+IsFlag value = (n : ℕ) × (n < 2 ^ 64) × (value ≡ varint n)
+
 -- the properties that a reader looks at have good values, where they are there
 -- Own, for now.
 -- Pinned by: a_file_loads_as_it_says, properties_that_are_good
 pub record AreGood (props : List Row) : Type 0 where
   -- user keys are in bytewise order
   pub comparator_is : IfSome (value_of comparator props) (λ value. value ≡ bytewise)
-  -- the index has one row for each data block
-  pub index_type : IfSome (value_of (name_bytes name.IndexType) props) (λ value. (value ≡ fixed 4 0) ⊎ (value ≡ fixed 4 1))
-  -- its keys are stored keys, and its values are whole handles
-  pub whole_keys : IfSome (value_of (name_bytes name.IndexKeyIsUserKey) props) (λ value. value ≡ varint 0)
-  pub whole_handles : IfSome (value_of (name_bytes name.IndexValueIsDeltaEncoded) props) (λ value. value ≡ varint 0)
+  -- the index is whole, or in parts
+  pub index_type : IfSome (value_of (name_bytes name.IndexType) props) IsIndexType
+  -- its separators are stored keys or user keys, and its handles whole or differences
+  pub user_key_flag : IfSome (value_of (name_bytes name.IndexKeyIsUserKey) props) IsFlag
+  pub delta_flag : IfSome (value_of (name_bytes name.IndexValueIsDeltaEncoded) props) IsFlag
   -- the file has no global sequence number
   pub unmarked : IfSome (value_of (name_bytes name.ExternalVersion) props) (λ value. value ≡ fixed 4 1)
 

@@ -81,17 +81,10 @@ IsMissing file name.ExternalVersion = ⊥
 IsMissing file name.IndexKeyIsUserKey = ⊥
 IsMissing file name.IndexValueIsDeltaEncoded = ⊥
 
--- a flag of the index is set
--- Own, for now.
-abbrev pub IsSet : List ℕ → Name → Type 0
-IsSet file name = (n : ℕ) × (0 < n) × (n < 2 ^ 64) × HasValue file (name_bytes name) (varint n)
-
--- the properties tell of a form that isn't read yet: an index of two levels or with user keys or differences, a mark
+-- the properties tell of a form that isn't read yet: the file is marked, so that all its entries have one sequence number
 -- Own, for now.
 abbrev pub IsOtherForm : List ℕ → Type 0
-IsOtherForm file =
-    HasValue file (name_bytes name.IndexType) (fixed 4 2) ⊎ IsSet file name.IndexKeyIsUserKey
-    ⊎ IsSet file name.IndexValueIsDeltaEncoded ⊎ HasValue file (name_bytes name.ExternalVersion) (fixed 4 2)
+IsOtherForm file = HasValue file (name_bytes name.ExternalVersion) (fixed 4 2)
 
 -- the file isn't read yet: it is another kind of table, or of such a form
 -- Own, for now.

@@ -67,11 +67,12 @@ fn is_two_levels(value: Option<&[u8]>) -> bool
 }
 
 /// The flag is there, and isn't 0.
+#[tactic(auto, unfolding(sst_num::specs::Spelling::varint))]
 fn is_set(value: Option<&[u8]>) -> bool
     ensures { result ≡ forms.is_set (option_map (λ v. v.now) value.entry) }
 {
     match value {
         None => false,
-        Some(value) => !(value == UNSET),
+        Some(value) => value != UNSET,
     }
 }

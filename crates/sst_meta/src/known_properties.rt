@@ -9,13 +9,10 @@ use crate::names::{BYTEWISE_COMPARATOR, COMPARATOR};
 use crate::property_values::{fixed32_in, fixed64_in, varint_in};
 use crate::props::Props;
 
-/// The index types below this one are read or known: binary search, hash search, two levels.
+/// The index types below this one are read: binary search, hash search, two levels.
 ///
 /// RocksDB: `BlockBasedTableOptions::IndexType` in include/rocksdb/table.h.
 const INDEX_TYPE_END: u32 = 3;
-
-/// The type of an index of two levels. RocksDB: `kTwoLevelIndexSearch` in include/rocksdb/table.h.
-const TWO_LEVELS: u32 = 2;
 
 /// The version of a file that was made outside a database, without and with a global sequence number.
 ///
@@ -126,29 +123,10 @@ fn flag_fault(name: Name, value: Option<&[u8]>) -> Option<MetaFault>
     }
 }
 
-/// The flag is set.
-fn is_flag(value: Option<&[u8]>) -> bool
-    ensures { result ≡ reading.is_flag (option_map (λ v. v.now) value.entry) }
-{
-    match value {
-        None => false,
-        Some(value) => varint_in(value) != Some(0),
-    }
-}
-
-/// A form that isn't read yet.
+/// A form that isn't read yet: the file is marked.
 fn form_fault(props: &Props) -> Option<MetaFault>
     ensures { result ≡ reading.form_fault props.now }
 {
-    if is_number(props.get(Name::IndexType.as_slice()), TWO_LEVELS) {
-        return Some(MetaFault::NotYet);
-    }
-    if is_flag(props.get(Name::IndexKeyIsUserKey.as_slice())) {
-        return Some(MetaFault::NotYet);
-    }
-    if is_flag(props.get(Name::IndexValueIsDeltaEncoded.as_slice())) {
-        return Some(MetaFault::NotYet);
-    }
     if is_number(props.get(Name::ExternalVersion.as_slice()), MARKED) {
         return Some(MetaFault::NotYet);
     }

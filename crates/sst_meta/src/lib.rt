@@ -91,6 +91,9 @@
 //! specs/MetaFaults.antt), and a file that loads shows none ([`a_meta_fault_is_shown`]). Of several faults it is the one
 //! whose step comes first (`LoadStep`, specs/LoadSteps.antt; [`the_fault_of_loading_is_the_first`]).
 //!
+//! [`Loaded::index_form`] answers the form of the file's index, which its properties tell (`index_form`,
+//! specs/IndexForms.antt): in parts or whole, of user keys or stored keys, with handles that are differences or whole.
+//!
 //! [`put_ending`] ends a file: it takes the properties as a list, and appends the properties block, the metaindex block
 //! that leads to it, and the footer (`ending_of`, specs/Put.antt). A file with this end (`file_with`) is loaded as these
 //! ([`what_is_put_is_loaded`]).

@@ -62,8 +62,7 @@ impl Loaded {
 /// The faults come in this order: `FileLong`; `NotTable`; `NotYet` of a plain or a cuckoo table; `Version`;
 /// `ChecksumType`; `BadFooter`; `Frame` and `Block` of the metaindex; `RangeTombstones`; `BadProperty` of
 /// `rocksdb.properties`, `Frame` and `Block` of the properties block; `Comparator`; of the other names that are looked
-/// at, in bytewise order, `BadProperty`, `IndexType` and `MissingProperty`; `NotYet` of an index of two levels or with
-/// user keys or differences, and of a global sequence number.
+/// at, in bytewise order, `BadProperty`, `IndexType` and `MissingProperty`; `NotYet` of a global sequence number.
 /// RocksDB: `BlockBasedTable::Open` in table/block_based/block_based_table_reader.cc, and `ReadTableProperties` in
 /// table/meta_blocks.cc.
 #[tactic(auto, unfolding(crate::specs::LoadReading::load_read))]

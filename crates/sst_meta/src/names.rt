@@ -8,8 +8,8 @@ pub const PROPERTIES: &[u8] = b"rocksdb.properties";
 /// In the metaindex: the block of range tombstones. RocksDB: `kRangeDelBlockName` in table/meta_blocks.cc.
 pub const RANGE_DEL: &[u8] = b"rocksdb.range_del";
 
-/// The kind of the index, a fixed32; 0 is the binary search index. RocksDB: `BlockBasedTablePropertyNames::kIndexType`
-/// in table/block_based/block_based_table_factory.cc.
+/// The kind of the index, a fixed32; 0 is the binary search index, 2 that of two levels. RocksDB:
+/// `BlockBasedTablePropertyNames::kIndexType` in table/block_based/block_based_table_factory.cc.
 pub const INDEX_TYPE: &[u8] = b"rocksdb.block.based.table.index.type";
 
 /// The name of the order of user keys. RocksDB: `TablePropertiesNames::kComparator` in table/table_properties.cc, as of

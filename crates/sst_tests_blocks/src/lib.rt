@@ -8,6 +8,7 @@
 //! - [`properties`]: names and their values in a block.
 //! - [`footers`]: the ends of files.
 //! - [`loading`]: what files say of themselves, and what is wrong with some.
+//! - [`forms`]: the form of an index, as the properties tell it.
 //! - [`lengths`]: the longest files that are loaded.
 //! - [`seeking`]: walks that go to a target and to a restart.
 //! - [`index`]: the keys between blocks.
@@ -18,6 +19,8 @@
 mod blocks;
 #[cfg(test)]
 mod footers;
+#[cfg(test)]
+mod forms;
 #[cfg(test)]
 mod index;
 #[cfg(test)]

@@ -24,7 +24,7 @@ const INDEX: Handle = Handle { offset: 0, size: 0 };
 const FIRST: Handle = Handle { offset: 0, size: 8 };
 
 /// Names and values.
-type Pairs<'a> = &'a [(&'a [u8], &'a [u8])];
+pub type Pairs<'a> = &'a [(&'a [u8], &'a [u8])];
 
 /// Appends the stored block of these bytes, and answers where it stands.
 fn put_block(out: &mut Vec<u8>, block: &[u8]) -> Result<Handle, Fail> {
@@ -74,7 +74,7 @@ fn file_at(alloc: Global, block: &[u8]) -> Result<Vec<u8>, Fail> {
 }
 
 /// A file whose metaindex has these names and values.
-fn file_of(alloc: Global, pairs: Pairs) -> Result<Vec<u8>, Fail> {
+pub fn file_of(alloc: Global, pairs: Pairs) -> Result<Vec<u8>, Fail> {
     let mut out = Vec::new(alloc);
     let meta = put_pairs(&mut out, alloc, pairs)?;
     put_end(&mut out, meta)?;
@@ -82,7 +82,7 @@ fn file_of(alloc: Global, pairs: Pairs) -> Result<Vec<u8>, Fail> {
 }
 
 /// A file with these properties.
-fn file_with(alloc: Global, props: Pairs) -> Result<Vec<u8>, Fail> {
+pub fn file_with(alloc: Global, props: Pairs) -> Result<Vec<u8>, Fail> {
     let mut out = Vec::new(alloc);
     let at = put_pairs(&mut out, alloc, props)?;
     let mut value = Vec::new(alloc);
@@ -93,7 +93,7 @@ fn file_with(alloc: Global, props: Pairs) -> Result<Vec<u8>, Fail> {
 }
 
 /// What is loaded of a file of these bytes.
-fn load_of(alloc: Global, bytes: &[u8]) -> Result<Result<Loaded, Stop<MetaFault>>, Fail> {
+pub fn load_of(alloc: Global, bytes: &[u8]) -> Result<Result<Loaded, Stop<MetaFault>>, Fail> {
     let mut folder = MemFolder::new(alloc, &[])?;
     folder.put_file(NAME, bytes)?;
     Ok(load(alloc, &mut folder, NAME))
@@ -249,7 +249,7 @@ fn names_that_are_faults(rt: HostRuntime) -> Result<(), Fail> {
 }
 
 /// Properties that are there and good, or not there.
-static GOOD: [Pairs<'static>; 4] = [
+static GOOD: [Pairs<'static>; 9] = [
     &[],
     &[
         (names::INDEX_TYPE, b"\0\0\0\0"),
@@ -261,6 +261,15 @@ static GOOD: [Pairs<'static>; 4] = [
     ],
     &[(names::INDEX_TYPE, b"\x01\0\0\0")],
     &[(b"other", b"value")],
+    // An index of two levels; user keys in it, where the flag is 1 and another number; the same of differences of handles.
+    &[(names::INDEX_TYPE, b"\x02\0\0\0")],
+    &[(names::INDEX_KEY_IS_USER_KEY, b"\x01")],
+    &[(names::INDEX_KEY_IS_USER_KEY, b"\x80\x01")],
+    &[(names::INDEX_VALUE_IS_DELTA_ENCODED, b"\x01")],
+    &[(
+        names::INDEX_VALUE_IS_DELTA_ENCODED,
+        b"\xff\xff\xff\xff\xff\xff\xff\xff\xff\x01",
+    )],
 ];
 
 #[test]
@@ -277,7 +286,7 @@ fn properties_that_are_good(rt: HostRuntime) -> Result<(), Fail> {
 }
 
 /// Properties that are at fault, and what is told first.
-static FAULTY: [(Pairs<'static>, MetaFault); 59] = [
+static FAULTY: [(Pairs<'static>, MetaFault); 56] = [
     // The order of keys: the last letter is another, a letter less, a letter more, and no name.
     (
         &[(names::COMPARATOR, b"leveldb.BytewiseComparatos")],
@@ -435,33 +444,7 @@ static FAULTY: [(Pairs<'static>, MetaFault); 59] = [
         )],
         MetaFault::BadProperty(Name::IndexValueIsDeltaEncoded),
     ),
-    // An index of two levels.
-    (
-        &[(names::INDEX_TYPE, b"\x02\x00\x00\x00")],
-        MetaFault::NotYet,
-    ),
-    // User keys in the index: the flag is 1, and another number.
-    (
-        &[(names::INDEX_KEY_IS_USER_KEY, b"\x01")],
-        MetaFault::NotYet,
-    ),
-    (
-        &[(names::INDEX_KEY_IS_USER_KEY, b"\x80\x01")],
-        MetaFault::NotYet,
-    ),
-    // Handles by their differences.
-    (
-        &[(names::INDEX_VALUE_IS_DELTA_ENCODED, b"\x01")],
-        MetaFault::NotYet,
-    ),
-    (
-        &[(
-            names::INDEX_VALUE_IS_DELTA_ENCODED,
-            b"\xff\xff\xff\xff\xff\xff\xff\xff\xff\x01",
-        )],
-        MetaFault::NotYet,
-    ),
-    // A sequence number for all entries: 0, and the last.
+    // A sequence number for all entries: 0, and the last; and 0 beside an index of another form.
     (
         &[
             (names::GLOBAL_SEQUENCE, b"\x00\x00\x00\x00\x00\x00\x00\x00"),
@@ -476,7 +459,17 @@ static FAULTY: [(Pairs<'static>, MetaFault); 59] = [
         ],
         MetaFault::NotYet,
     ),
-    // The order of keys before the type of the index, and before a form that isn't read yet.
+    (
+        &[
+            (names::INDEX_TYPE, b"\x02\x00\x00\x00"),
+            (names::GLOBAL_SEQUENCE, b"\x00\x00\x00\x00\x00\x00\x00\x00"),
+            (names::EXTERNAL_VERSION, b"\x02\x00\x00\x00"),
+            (names::INDEX_KEY_IS_USER_KEY, b"\x01"),
+            (names::INDEX_VALUE_IS_DELTA_ENCODED, b"\x01"),
+        ],
+        MetaFault::NotYet,
+    ),
+    // The order of keys before the type of the index, and before a mark, which isn't read yet.
     (
         &[
             (names::INDEX_TYPE, b"\x03\x00\x00\x00"),
@@ -490,8 +483,9 @@ static FAULTY: [(Pairs<'static>, MetaFault); 59] = [
     ),
     (
         &[
-            (names::INDEX_TYPE, b"\x02\x00\x00\x00"),
             (names::COMPARATOR, b""),
+            (names::GLOBAL_SEQUENCE, b"\x00\x00\x00\x00\x00\x00\x00\x00"),
+            (names::EXTERNAL_VERSION, b"\x02\x00\x00\x00"),
         ],
         MetaFault::Comparator,
     ),
@@ -550,7 +544,7 @@ static FAULTY: [(Pairs<'static>, MetaFault); 59] = [
         ],
         MetaFault::BadProperty(Name::IndexKeyIsUserKey),
     ),
-    // Each before a form that isn't read yet.
+    // Each beside an index of another form.
     (
         &[
             (names::INDEX_TYPE, b"\x02\x00\x00\x00"),
@@ -572,6 +566,15 @@ static FAULTY: [(Pairs<'static>, MetaFault); 59] = [
     (
         &[
             (names::INDEX_TYPE, b"\x02\x00\x00\x00"),
+            (names::INDEX_KEY_IS_USER_KEY, b""),
+        ],
+        MetaFault::BadProperty(Name::IndexKeyIsUserKey),
+    ),
+    // Either flag before the mark.
+    (
+        &[
+            (names::GLOBAL_SEQUENCE, b"\x00\x00\x00\x00\x00\x00\x00\x00"),
+            (names::EXTERNAL_VERSION, b"\x02\x00\x00\x00"),
             (names::INDEX_KEY_IS_USER_KEY, b""),
         ],
         MetaFault::BadProperty(Name::IndexKeyIsUserKey),

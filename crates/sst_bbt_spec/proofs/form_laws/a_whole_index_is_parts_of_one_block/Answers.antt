@@ -1,5 +1,5 @@
 use Rattle.std.proofs.Common.{None}
-use Rattle.sst_bbt_spec.proofs.WholeIndex.{answer-alone, replies-alone, opens-alone, open-alone, alone-open, stand-alone, alone-stand}
+use Rattle.sst_bbt_spec.proofs.WholeIndex.{answer-alone, replies-alone, opens-alone, alone-separated, separated-alone}
 use Rattle.sst_bbt_spec.proofs.form_laws.a_whole_index_is_parts_of_one_block.Goals as goal
 
 pub returns-clause-answers : goal.returns-clause-answers
@@ -11,14 +11,8 @@ returns-clause-replies c = λ blocks calls. replies-alone blocks None calls
 pub returns-clause-parts : goal.returns-clause-parts
 returns-clause-parts c = opens-alone
 
-pub returns-clause-opens : goal.returns-clause-opens
-returns-clause-opens c = open-alone
+pub returns-clause-separated : goal.returns-clause-separated
+returns-clause-separated c = alone-separated
 
-pub returns-clause-opened : goal.returns-clause-opened
-returns-clause-opened c = alone-open
-
-pub returns-clause-stands : goal.returns-clause-stands
-returns-clause-stands c = stand-alone
-
-pub returns-clause-stood : goal.returns-clause-stood
-returns-clause-stood c = alone-stand
+pub returns-clause-apart : goal.returns-clause-apart
+returns-clause-apart c = separated-alone

@@ -5,4 +5,4 @@ pub returns-clause-apart : goal.returns-clause-apart
 returns-clause-apart c = λ mark found parts position number call all at apart seqs. way-lands_in_list mark found parts position number call all at apart seqs
 
 pub returns-clause-stands : goal.returns-clause-stands
-returns-clause-stands c = λ file form entries stands found position number call all at. way-lands_in_file file form entries stands found position number call all at
+returns-clause-stands c = λ file entries stands found position number call all at. way-lands_in_file file entries stands found position number call all at

@@ -8,4 +8,4 @@ pub returns-clause-lead : goal.returns-clause-lead
 returns-clause-lead c = λ reading file end form top row pairs parts exact found. found-lead reading file end form top row pairs parts exact found
 
 pub returns-clause-way : goal.returns-clause-way
-returns-clause-way c = λ reading file form entries stands position number call exact at. read-way_lands reading file form entries stands position number call exact at
+returns-clause-way c = λ reading file entries stands position number call exact at. read-way_lands reading file entries stands position number call exact at
