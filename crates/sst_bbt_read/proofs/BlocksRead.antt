@@ -122,3 +122,28 @@ lead_fails file end leads n lead blocks fault at front fails =
     subst (λ (ls : List IndexLead). BlocksFail file end (pairs_of ls) fault) (sym (split_at_one leads n lead at))
     (subst (λ (ps : List IndexPair). BlocksFail file end ps fault) (sym (map-append pair_of (take n leads) (lead ∷ drop (n + 1) leads)))
     (blocks_fail-behind file end false (pairs_of (take n leads)) (pair_of lead) (pairs_of (drop (n + 1) leads)) blocks fault front fails))
+
+pub blocks_read-more : (held mid now : Option Files) (before faults later : ℕ) (name : List ℕ) (end : ℕ) (leads : List IndexLead) (n : ℕ) (lead : IndexLead) (old blocks new : DataBlocks)
+    → slice_get leads n ≡ Some lead → BlocksRead held mid before faults name end leads n old blocks
+    → (block : BlockAdded blocks.entries.items new.entries.items (length new.entries.items))
+    → new.ends.items ≡ blocks.ends.items ++ record { separator = lead.separator; end = length new.entries.items } ∷ []
+    → ((file : List ℕ) → file_of mid name ≡ Some file → HoldsEntries file end lead.handle block.entries) → now ≡ mid → later ≡ faults
+    → BlocksRead held now before later name end leads (n + 1) old new
+blocks_read-more held mid now before faults later name end leads n lead old blocks new at so block is holds same counts =
+    let more = blocks_more (take n leads) lead old blocks new so.added block is in
+    let led : (file : List ℕ) → file_of held name ≡ Some file → LeadToBlocks file end false (pairs_of (take n leads ++ lead ∷ [])) more.0.blocks =
+    λ file told.
+        subst (LeadToBlocks file end false (pairs_of (take n leads ++ lead ∷ []))) (sym more.1)
+        (lead_more file end leads n lead so.added.blocks block.entries at (so.read file told) (holds file (ap (λ (h : Option Files). file_of h name) so.same_files ∙ told))) in
+    let all =
+    subst (λ (ls : List IndexLead). (added : BlocksAdded ls old new) × ((file : List ℕ) → file_of held name ≡ Some file → LeadToBlocks file end false (pairs_of ls) added.blocks))
+    (first_more leads n lead at) (more.0, led) in
+    record { same_files = same ∙ so.same_files; counts = counts ∙ so.counts; added = all.0; read = all.1 }
+
+-- all were read
+pub blocks_read-all : (held now : Option Files) (before faults : ℕ) (name : List ℕ) (end : ℕ) (leads : List IndexLead) (n : ℕ) (old new : DataBlocks)
+    → BlocksRead held now before faults name end leads n old new → length leads ≤ n
+    → (added : BlocksAdded leads old new) × ((file : List ℕ) → file_of held name ≡ Some file → LeadToBlocks file end false (pairs_of leads) added.blocks)
+blocks_read-all held now before faults name end leads n old new so all =
+    subst (λ (ls : List IndexLead). (added : BlocksAdded ls old new) × ((file : List ℕ) → file_of held name ≡ Some file → LeadToBlocks file end false (pairs_of ls) added.blocks))
+    (take_all n leads all) (so.added, so.read)

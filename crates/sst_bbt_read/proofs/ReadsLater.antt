@@ -39,3 +39,23 @@ reads_none B Missed held last first final same counts fine = record {
 pub fine_count : (A : Type 0) (before now : ℕ) → A ⊎ (now ≡ before) → (A → ⊥) → now ≡ before
 fine_count A before now (inl failed) fine = absurd (fine failed)
 fine_count A before now (inr same) fine = same
+
+-- an answer that is passed on fails as it did
+passed_on : {T U : Type 0} (result : Result T (Stop BbtFault)) (passed stop : Stop BbtFault) → result ≡ Err passed → passed ≡ stop
+    → ◌≡◌ {A = Result U (Stop BbtFault)} (Err stop) (Err Device) → result ≡ Err Device
+passed_on result passed stop is same failed = let one : stop ≡ Device = cc in is ∙ ap Err (same ∙ one)
+
+passed_back : {T U : Type 0} (result : Result T (Stop BbtFault)) (passed stop : Stop BbtFault) → result ≡ Err passed → passed ≡ stop → result ≡ Err Device
+    → ◌≡◌ {A = Result U (Stop BbtFault)} (Err stop) (Err Device)
+passed_back {T = T} result passed stop is same failed =
+    let both : ◌≡◌ {A = Result T (Stop BbtFault)} (Err passed) (Err Device) = sym is ∙ failed in
+    let one : passed ≡ Device = cc in ap Err (sym same ∙ one)
+
+-- so does the call that passes it on, where the folder was as before when the last call began
+pub reads_passed : {T U : Type 0} (result : Result T (Stop BbtFault)) (passed stop : Stop BbtFault) (held mid last : Option Files) (name : List ℕ) (end first then_ final : ℕ)
+    → result ≡ Err passed → passed ≡ stop → mid ≡ held → then_ ≡ first
+    → OnlyReads (◌≡◌ {A = Result U (Stop BbtFault)} (Err stop) (Err Device)) (IsTrue (misses mid name end)) mid last then_ final
+    → OnlyReads (result ≡ Err Device) (IsTrue (misses held name end)) held last first final
+reads_passed result passed stop held mid last name end first then_ final is same files counts reads =
+    reads_later _ (result ≡ Err Device) held mid last name end first then_ final files counts (λ failed. passed_on result passed stop is same failed)
+    (λ failed. passed_back result passed stop is same failed) reads
