@@ -29,7 +29,7 @@ pub block_again : (before now : List Entry) (place : ℕ) (added : BlockAdded be
     → (again : BlockAdded before now (length now)) × (again.entries ≡ added.entries)
 block_again before now place added = (record { entries = added.entries; appended = added.appended; ends = refl; some = added.some; are = added.are }, refl)
 
-pub end_again : (ends now : List RunEnd) (shown key : List ℕ) (place : ℕ) (entries : List Entry) → now ≡ ends ++ record { separator = shown; end = place } ∷ []
+pub end_again : {A : Type 0} (ends now : List RunEnd) (shown key : List ℕ) (place : ℕ) (entries : List A) → now ≡ ends ++ record { separator = shown; end = place } ∷ []
     → shown ≡ key → place ≡ length entries → now ≡ ends ++ record { separator = key; end = length entries } ∷ []
 end_again ends now shown key place entries is same at =
     is ∙ ap (λ (l : List ℕ). ends ++ record { separator = l; end = place } ∷ []) same

@@ -1,7 +1,9 @@
 -- The parts of an index, read one behind the other, as the rows of its top block lead to them.
-use Rattle.std.proofs.Common.{◌≡◌, ◌⊎◌, ℕ, zero, suc, ◌+◌, ◌<◌, ◌≤◌, Bool, true, false, List, [], ◌∷◌, ◌++◌, length, length-append, map, take, drop, All, Option, Some, slice_get, Result, Ok, Err, OnOk, refl, sym, ap, ◌∙◌, subst, inl, inr, arith}
-use Rattle.std.proofs.lemmas.List.{map-append, length-map, take_all}
-use Rattle.std.proofs.lemmas.List.Elements.{All-nil, All-cons, All-append}
+use Rattle.std.proofs.Common.{◌≡◌, ◌⊎◌, ℕ, zero, suc, ◌+◌, ◌==◌, ◌<◌, ◌≤◌, Bool, true, false, List, [], ◌∷◌, ◌++◌, length, length-append, map, take, drop, All, Option, Some, slice_get, Result, Ok, Err, OnOk, refl, sym, ap, ◌∙◌, subst, inl, inr, arith}
+use Rattle.std.proofs.lemmas.Bool.{eqb-true}
+use Rattle.std.proofs.lemmas.List.{map-append, length-map, take_all, nil_from_length}
+use Rattle.std.proofs.lemmas.List.Elements.{All-nil, All-cons, All-append, All-get_or}
+use Rattle.std.proofs.lemmas.Option.{slice_get_within, get_or_from_slice_get}
 use Rattle.sst_num.specs.declared.block_handle.Handle.{Handle}
 use Rattle.sst_num.specs.declared.stops.Stop.{Stop}
 use Rattle.sst_num.specs.declared.stops.Stop.TheVariants.{Damage, Device, Memory}
@@ -31,7 +33,7 @@ use Rattle.sst_bbt_read.proofs.TableGrown.{ends-append, ends-one, blocks-append,
 -- ---- a part
 
 -- an answer by one relation is one by a weaker
-pub stopped_weaker : {A B : Type 0} (result : Result A (Stop BbtFault)) (P Q : BbtFault → Type 0) → ((fault : BbtFault) → P fault → Q fault) → Stopped result P → Stopped result Q
+pub stopped_weaker : {A : Type 0} (result : Result A (Stop BbtFault)) (P Q : BbtFault → Type 0) → ((fault : BbtFault) → P fault → Q fault) → Stopped result P → Stopped result Q
 stopped_weaker (Ok x) P Q weaker is = tt
 stopped_weaker (Err (Damage fault)) P Q weaker is = weaker fault is
 stopped_weaker (Err Device) P Q weaker is = tt
@@ -237,3 +239,35 @@ pub all_led : (file : List ℕ) (end : ℕ) (form : IndexForm) (leads : List Ind
 all_led file end form leads pairs n parts kept all lead =
     subst (λ (ps : List IndexPair). LeadToParts file end form ps parts)
     (take_all n pairs (omega (arith, all, ap length kept, length-map pairs (lead_of form.user_key)))) lead
+
+-- ---- a test for a list without an element
+
+pub none_from : {A : Type 0} (xs : List A) (n : ℕ) → true ≡ (n == 0) → n ≡ length xs → xs ≡ []
+none_from xs n test count = nil_from_length xs (sym count ∙ eqb-true n 0 (sym test))
+
+pub some_from : {A : Type 0} (xs : List A) (n : ℕ) → false ≡ (n == 0) → n ≡ length xs → 0 < length xs
+some_from xs zero test count = absurd (cc)
+some_from xs (suc n) test count = omega (arith, count)
+
+-- ---- the loop
+
+-- no part so far
+pub parts_none : (held : Option Files) (before : ℕ) (name : List ℕ) (end : ℕ) (form : IndexForm) (leads : List IndexLead) (tops : List RunEnd) (blocks : DataBlocks)
+    → tops ≡ [] → blocks.ends.items ≡ [] → blocks.entries.items ≡ [] → PartsRead held held before before name end form leads 0 tops blocks
+parts_none held before name end form leads tops blocks no_tops no_ends no_entries = record {
+  same_files = refl;
+  counts = refl;
+  ends = rw (no_ends, no_entries) refl;
+  are_tops = rw (no_tops, no_ends) refl;
+  separators = ap separators_of no_tops;
+  within = rw no_tops tt;
+  are = rw no_ends (All-nil (λ (block : IndexedBlock). AreEntries block.entries));
+  read = λ file told pairs kept. ap (λ (ts : List RunEnd). parts_from 0 ts (blocks_from 0 blocks.ends.items blocks.entries.items)) no_tops;
+}
+
+-- each row that is kept has a stored key
+pub lead_long : (leads : List IndexLead) (n : ℕ) (lead : IndexLead) → AreLeads leads → slice_get leads n ≡ Some lead → 8 ≤ length lead.separator
+lead_long leads n lead are at =
+    let within = slice_get_within leads n lead at in
+    subst (λ (l : IndexLead). 8 ≤ length l.separator) (get_or_from_slice_get leads n lead lead at)
+    (All-get_or (λ (l : IndexLead). 8 ≤ length l.separator) leads n lead within are.long)
