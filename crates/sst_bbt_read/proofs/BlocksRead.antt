@@ -1,5 +1,5 @@
 -- Data blocks that are read one behind the other, as the rows of an index block lead to them.
-use Rattle.std.proofs.Common.{◌≡◌, ℕ, ◌+◌, ◌<◌, ◌≤◌, false, List, [], ◌∷◌, ◌++◌, length, length-append, map, take, drop, All, Option, Some, slice_get, refl, sym, ap, ◌∙◌, subst, arith, add-one}
+use Rattle.std.proofs.Common.{◌≡◌, ℕ, ◌+◌, ◌≤◌, false, List, [], ◌∷◌, ◌++◌, length, length-append, take, drop, Option, Some, slice_get, refl, sym, ap, ◌∙◌, subst, arith, add-one}
 use Rattle.std.proofs.Math.Seq.{take-suc}
 use Rattle.std.proofs.lemmas.List.{map-append, take_all, append_assoc, append-nil, take-append-drop}
 use Rattle.std.proofs.lemmas.List.Elements.{All-nil, All-push}
@@ -10,7 +10,7 @@ use Rattle.sst_block.specs.IndexRows.{IndexPair}
 use Rattle.sst_device.specs.Folder.{Files, file_of}
 use Rattle.sst_bbt_spec.specs.IndexLeads.{HoldsEntries, LeadToBlocks}
 use Rattle.sst_bbt_spec.specs.Way.{IndexedBlock}
-use Rattle.sst_bbt_read.specs.GrownTable.{BlocksAdded, separators_of, lead_separators}
+use Rattle.sst_bbt_read.specs.GrownTable.{BlocksAdded}
 use Rattle.sst_bbt_read.specs.KeptLeads.{pair_of, pairs_of}
 use Rattle.sst_bbt_read.specs.OpeningFaults.{SomeBlockFails, BlocksFail}
 use Rattle.sst_bbt_read.specs.Reader.{BlockAdded}
@@ -133,8 +133,8 @@ blocks_read-more held mid now before faults later name end leads n lead old bloc
     let more = blocks_more (take n leads) lead old blocks new so.added block is in
     let led : (file : List ℕ) → file_of held name ≡ Some file → LeadToBlocks file end false (pairs_of (take n leads ++ lead ∷ [])) more.0.blocks =
     λ file told.
-        subst (LeadToBlocks file end false (pairs_of (take n leads ++ lead ∷ []))) (sym more.1)
-        (lead_more file end leads n lead so.added.blocks block.entries at (so.read file told) (holds file (ap (λ (h : Option Files). file_of h name) so.same_files ∙ told))) in
+    subst (LeadToBlocks file end false (pairs_of (take n leads ++ lead ∷ []))) (sym more.1)
+    (lead_more file end leads n lead so.added.blocks block.entries at (so.read file told) (holds file (ap (λ (h : Option Files). file_of h name) so.same_files ∙ told))) in
     let all =
     subst (λ (ls : List IndexLead). (added : BlocksAdded ls old new) × ((file : List ℕ) → file_of held name ≡ Some file → LeadToBlocks file end false (pairs_of ls) added.blocks))
     (first_more leads n lead at) (more.0, led) in

@@ -1,5 +1,5 @@
 -- A block that is drawn and checked, or the first thing that is wrong with it.
-use Rattle.std.proofs.Common.{◌≡◌, ◌⊎◌, ℕ, List, Result, Ok, Err, refl, inl, inr}
+use Rattle.std.proofs.Common.{◌≡◌, ℕ, List, Ok, Err, refl, inl, inr}
 use Rattle.sst_num.specs.declared.block_handle.Handle.{Handle}
 use Rattle.sst_num.specs.declared.stops.Stop.{Stop}
 use Rattle.sst_num.specs.declared.stops.Stop.TheVariants.{Damage, Device, Memory}
@@ -7,13 +7,11 @@ use Rattle.sst_block.specs.declared.row_form.RowForm.{RowForm}
 use Rattle.sst_block.specs.declared.fault.BlockFault.{BlockFault}
 use Rattle.sst_block.specs.FirstFault.{IsFirstFault}
 use Rattle.sst_device.specs.Stops.{Answers, stop_as}
-use Rattle.sst_device.specs.Framed.{Framed}
 use Rattle.sst_device.specs.FrameReading.{frame_read}
 use Rattle.sst_device.specs.declared.frame.FrameFault.{FrameFault}
 use Rattle.sst_device.proofs.FramesRead.{framed-read, frame-fault}
 use Rattle.sst_bbt_read.specs.OpeningFaults.{BlockFails}
 use Rattle.sst_bbt_read.specs.Reader.{Stopped}
-use Rattle.sst_bbt_read.specs.declared.bbt_fault.BbtFault.{BbtFault}
 use Rattle.sst_bbt_read.specs.declared.bbt_fault.BbtFault.TheVariants as bbt
 
 -- its frame is wrong

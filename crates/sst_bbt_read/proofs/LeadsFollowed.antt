@@ -1,6 +1,6 @@
 -- Where the rows of an index block lead, one after the other: to good data blocks, or to the first that isn't good. So do the
 -- rows of the top block.
-use Rattle.std.proofs.Common.{◌≡◌, ℕ, Bool, false, List, [], ◌∷◌, ◌++◌, map, refl, sym, ap, ◌∙◌, subst, inl, inr}
+use Rattle.std.proofs.Common.{◌≡◌, ℕ, Bool, false, List, [], ◌∷◌, ◌++◌, refl, sym, subst, inl, inr}
 use Rattle.sst_block.specs.declared.row_form.RowForm.TheVariants.{Entries}
 use Rattle.sst_block.specs.IndexRows.{IndexPair}
 use Rattle.sst_meta.specs.declared.index_form.IndexForm.{IndexForm}

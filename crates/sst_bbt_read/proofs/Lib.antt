@@ -13,6 +13,7 @@ pub mod JoinedParts
 pub mod LeadsCopied
 pub mod LeadsFollowed
 pub mod ListSearch
+pub mod LoadedTree
 pub mod Moved
 pub mod Moves
 pub mod OneLess

@@ -14,13 +14,13 @@ use Rattle.sst_block.specs.IndexRows.{IndexPair, SayPairs}
 use Rattle.sst_device.specs.Folder.{Files, file_of}
 use Rattle.sst_meta.specs.declared.index_form.IndexForm.{IndexForm}
 use Rattle.sst_bbt_spec.specs.IndexLeads.{SaysPairs, HoldsPairs, HoldsPart, LeadToBlocks, LeadsWithin, LeadToParts}
-use Rattle.sst_bbt_spec.specs.Parts.{Part, separator_of}
+use Rattle.sst_bbt_spec.specs.Parts.{Part}
 use Rattle.sst_bbt_spec.specs.Way.{IndexedBlock}
 use Rattle.sst_bbt_read.specs.GrownTable.{BlocksAdded, PartAdded, separators_of, lead_separators}
 use Rattle.sst_bbt_read.specs.KeptLeads.{AreLeads, lead_of, leads_of, pairs_of}
 use Rattle.sst_bbt_read.specs.OpeningFaults.{BlockFails, SomeBlockFails, BlocksFail, WithinFails, PartsFail}
 use Rattle.sst_bbt_read.specs.Reader.{Stopped}
-use Rattle.sst_bbt_read.specs.TableBlocks.{OpenTable, IsOpenTable, AreEnds, AreEntries, AreWithin, blocks_from, parts_from}
+use Rattle.sst_bbt_read.specs.TableBlocks.{IsOpenTable, AreEnds, AreEntries, AreWithin, blocks_from, parts_from}
 use Rattle.sst_bbt_read.specs.declared.bbt_fault.BbtFault.{BbtFault}
 use Rattle.sst_bbt_read.specs.declared.bbt_fault.BbtFault.TheVariants as bbt
 use Rattle.sst_bbt_read.specs.declared.kept_table.RunEnd.{RunEnd}

@@ -1,5 +1,5 @@
 -- A call that reads a folder after others that only read it, too, and an answer that is passed on.
-use Rattle.std.proofs.Common.{◌≡◌, ◌⊎◌, IsTrue, ℕ, List, Option, Result, Ok, Err, refl, inl, inr, sym, ap, ◌∙◌, subst, arith}
+use Rattle.std.proofs.Common.{◌≡◌, ◌⊎◌, IsTrue, ℕ, List, Option, Result, Err, inl, inr, sym, ap, ◌∙◌, subst, arith}
 use Rattle.sst_num.specs.declared.stops.Stop.{Stop}
 use Rattle.sst_num.specs.declared.stops.Stop.TheVariants.{Device}
 use Rattle.sst_device.specs.Faults.{Rose}

@@ -67,7 +67,12 @@ fn read_parts<F: Folder>(
     };
     for lead in leads {
         read_within(alloc, files, name, end, form, lead, &mut blocks)?;
-        add_end(alloc, &mut tops, lead.separator.as_slice(), blocks.ends.len())?;
+        add_end(
+            alloc,
+            &mut tops,
+            lead.separator.as_slice(),
+            blocks.ends.len(),
+        )?;
     }
     let DataBlocks { ends, entries } = blocks;
     Ok(KeptTable {

@@ -2,7 +2,6 @@ use Rattle.std.proofs.Common.{[], ◌++◌, ◌∷◌, None, refl, sym, arith}
 use Rattle.std.proofs.lemmas.List.{append-nil}
 use Rattle.std.proofs.lemmas.List.Elements.{All-nil, All-push}
 use Rattle.sst_block.proofs.RowsCopied.{walks-at}
-use Rattle.sst_block.specs.declared.row_form.RowForm.TheVariants.{Entries}
 use Rattle.sst_bbt_spec.specs.Rows.{HasSeq}
 use Rattle.sst_bbt_read.proofs.BlockRows.{internal_at, copied_more, copied_all, entries_are, appended_more}
 use Rattle.sst_bbt_read.proofs.block_rows.add_entries.Goals as goal

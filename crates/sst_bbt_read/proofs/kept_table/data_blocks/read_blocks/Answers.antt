@@ -1,4 +1,4 @@
-use Rattle.std.proofs.Common.{◌≡◌, ℕ, Option, Some, refl, inl, inr, sym, ap, ◌∙◌, arith}
+use Rattle.std.proofs.Common.{◌≡◌, Option, Some, refl, inl, inr, sym, ap, ◌∙◌, arith}
 use Rattle.std.proofs.lemmas.Option.{slice_get-get_or}
 use Rattle.std.proofs.lemmas.Result.{err_from_is_err_and}
 use Rattle.sst_block.specs.declared.row_form.RowForm.TheVariants.{Entries}
@@ -37,7 +37,7 @@ loop-lead-preserved g c =
     let reads = c.in_ok-add_block.ensures.folder in
     let b = c.in_ok-add_block.ensures.added in
     let at = slice_get-get_or c.args.leads.now c.loop-lead.lead-index c.lead-item.result c.loop-lead-test.true ∙ ap Some (sym c.lead-item.is) in
-    let steady : g.F.Folder.faults c.add_block.new.files ≡ g.F.Folder.faults c.loop-lead.files = elim reads.hides_none [ | inl failed ↦ absurd (cc) | inr same ↦ same ] in
+    let steady : g.F.Folder.faults c.add_block.new.files ≡ g.F.Folder.faults c.loop-lead.files = elim reads.hides_none [ inl failed ↦ absurd (cc) | inr same ↦ same ] in
     blocks_read-more (g.F.Folder.held c.args.files.now) (g.F.Folder.held c.loop-lead.files) (g.F.Folder.held c.add_block.new.files) (g.F.Folder.faults c.args.files.now)
     (g.F.Folder.faults c.loop-lead.files) (g.F.Folder.faults c.add_block.new.files) c.args.name.now c.args.end c.args.leads.now c.loop-lead.lead-index c.lead-item.result
     c.args.blocks.now c.loop-lead.blocks c.add_block.new.blocks at so b.0 b.1 b.2 reads.same_files steady

@@ -1,4 +1,4 @@
-use Rattle.std.proofs.Common.{◌≡◌, List, Option, inl, inr, sym, ap, ◌∙◌, subst}
+use Rattle.std.proofs.Common.{◌≡◌, Option, inl, inr, sym, ap, ◌∙◌, subst}
 use Rattle.std.proofs.lemmas.Result.{err_from_is_err_and, IfOk-weaker}
 use Rattle.sst_block.specs.declared.row_form.RowForm.TheVariants.{Index}
 use Rattle.sst_device.specs.Folder.{Files, file_of}
@@ -34,7 +34,7 @@ returns-clause-told g c = λ file told.
 pub returns-clause-folder : goal.returns-clause-folder
 returns-clause-folder g c =
     let reads = c.in_ok-leads.ensures.folder in
-    let steady : g.F.Folder.faults c.read_leads.new.files ≡ g.F.Folder.faults c.args.files.now = elim reads.hides_none [ | inl failed ↦ absurd (cc) | inr same ↦ same ] in
+    let steady : g.F.Folder.faults c.read_leads.new.files ≡ g.F.Folder.faults c.args.files.now = elim reads.hides_none [ inl failed ↦ absurd (cc) | inr same ↦ same ] in
     reads_later _ _ (g.F.Folder.held c.args.files.now) (g.F.Folder.held c.read_leads.new.files) (g.F.Folder.held c.read_parts.new.files) c.args.name.now c.args.end
     (g.F.Folder.faults c.args.files.now) (g.F.Folder.faults c.read_leads.new.files) (g.F.Folder.faults c.read_parts.new.files) reads.same_files steady (λ failed. failed) (λ failed. failed)
     c.read_parts.ensures.folder

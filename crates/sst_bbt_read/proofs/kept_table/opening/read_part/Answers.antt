@@ -1,12 +1,9 @@
-use Rattle.std.proofs.Common.{◌≡◌, ℕ, ◌<◌, true, List, Option, length, inl, inr, ap, ◌∙◌, sym, subst, arith}
+use Rattle.std.proofs.Common.{◌≡◌, true, Option, inl, inr, ap, ◌∙◌, sym, subst, arith}
 use Rattle.std.proofs.lemmas.Result.{err_from_is_err_and}
 use Rattle.sst_block.specs.declared.row_form.RowForm.TheVariants.{Index}
 use Rattle.sst_device.specs.Folder.{Files, file_of}
-use Rattle.sst_bbt_spec.specs.IndexLeads.{LeadToBlocks}
-use Rattle.sst_bbt_read.specs.GrownTable.{BlocksAdded}
 use Rattle.sst_bbt_read.specs.KeptLeads.{AreLeads, pairs_of}
 use Rattle.sst_bbt_read.specs.OpeningFaults.{BlockFails, BlocksFail, WithinFails}
-use Rattle.sst_bbt_read.specs.declared.kept_table.index_leads.IndexLead.{IndexLead}
 use Rattle.sst_bbt_read.proofs.BlockHeld.{stop_weaker}
 use Rattle.sst_bbt_read.proofs.PartsRead.{part_fails, part_empty, part_held, part_blocks_fail, stopped_weaker, ok_weaker, none_from, some_from}
 use Rattle.sst_bbt_read.proofs.ReadsLater.{reads_later}
@@ -45,13 +42,13 @@ returns-clause-told g c = λ file told pair same.
     let says = c.in_ok-leads.ensures.says file told in
     stopped_weaker c.read_blocks.result (BlocksFail file c.args.end (pairs_of c.as_slice.result.now)) (WithinFails true file c.args.end c.args.form pair)
     (λ fault is. part_blocks_fail file c.args.end c.args.form c.args.handle says.0 c.as_slice.result.now pair fault says.1 (c.as_slice.ensures.value ∙ says.2)
-        (rw (c.as_slice.ensures.value) some) same is)
+    (rw (c.as_slice.ensures.value) some) same is)
     (c.read_blocks.ensures.told file (ap (λ (h : Option Files). file_of h c.args.name.now) reads.same_files ∙ told))
 
 pub returns-clause-folder : goal.returns-clause-folder
 returns-clause-folder g c =
     let reads = c.in_ok-leads.ensures.folder in
-    let steady : g.F.Folder.faults c.read_leads.new.files ≡ g.F.Folder.faults c.args.files.now = elim reads.hides_none [ | inl failed ↦ absurd (cc) | inr same ↦ same ] in
+    let steady : g.F.Folder.faults c.read_leads.new.files ≡ g.F.Folder.faults c.args.files.now = elim reads.hides_none [ inl failed ↦ absurd (cc) | inr same ↦ same ] in
     reads_later _ _ (g.F.Folder.held c.args.files.now) (g.F.Folder.held c.read_leads.new.files) (g.F.Folder.held c.read_blocks.new.files) c.args.name.now c.args.end
     (g.F.Folder.faults c.args.files.now) (g.F.Folder.faults c.read_leads.new.files) (g.F.Folder.faults c.read_blocks.new.files) reads.same_files steady (λ failed. failed) (λ failed. failed)
     c.read_blocks.ensures.folder

@@ -1,4 +1,4 @@
-use Rattle.std.proofs.Common.{◌≡◌, ℕ, List, Option, Some, Err, slice_get, refl, inl, inr, sym, ap, ◌∙◌, arith}
+use Rattle.std.proofs.Common.{◌≡◌, List, Option, Some, slice_get, inl, inr, sym, ap, ◌∙◌, arith}
 use Rattle.std.proofs.lemmas.Option.{slice_get-get_or}
 use Rattle.std.proofs.lemmas.Result.{err_from_is_err_and}
 use Rattle.sst_device.specs.Folder.{Files, file_of}
@@ -49,7 +49,7 @@ pub returns-in_err-add_end-clause-folder : goal.returns-in_err-add_end-clause-fo
 returns-in_err-add_end-clause-folder g c =
     let so = c.loop-lead.invariant in
     let reads = c.in_ok-read_within.ensures.folder in
-    let steady : g.F.Folder.faults c.read_within.new.files ≡ g.F.Folder.faults c.loop-lead.files = elim reads.hides_none [ | inl failed ↦ absurd (cc) | inr same ↦ same ] in
+    let steady : g.F.Folder.faults c.read_within.new.files ≡ g.F.Folder.faults c.loop-lead.files = elim reads.hides_none [ inl failed ↦ absurd (cc) | inr same ↦ same ] in
     let p = err_from_is_err_and c.from_residual-in_err-add_end.result c.from_residual-in_err-add_end.ensures.1 in
     reads_none _ _ (g.F.Folder.held c.args.files.now) (g.F.Folder.held c.read_within.new.files) (g.F.Folder.faults c.args.files.now) (g.F.Folder.faults c.read_within.new.files)
     (reads.same_files ∙ so.same_files) (steady ∙ so.counts) (λ failed. cc (p.1, p.2, failed))
@@ -60,10 +60,10 @@ loop-lead-preserved g c =
     let reads = c.in_ok-read_within.ensures.folder in
     let part = c.in_ok-read_within.ensures.added in
     let at = slice_get-get_or c.args.leads.now c.loop-lead.lead-index c.lead-item.result c.loop-lead-test.true ∙ ap Some (sym c.lead-item.is) in
-    let steady : g.F.Folder.faults c.read_within.new.files ≡ g.F.Folder.faults c.loop-lead.files = elim reads.hides_none [ | inl failed ↦ absurd (cc) | inr same ↦ same ] in
+    let steady : g.F.Folder.faults c.read_within.new.files ≡ g.F.Folder.faults c.loop-lead.files = elim reads.hides_none [ inl failed ↦ absurd (cc) | inr same ↦ same ] in
     parts_read-more (g.F.Folder.held c.args.files.now) (g.F.Folder.held c.loop-lead.files) (g.F.Folder.held c.read_within.new.files) (g.F.Folder.faults c.args.files.now)
     (g.F.Folder.faults c.loop-lead.files) (g.F.Folder.faults c.read_within.new.files) c.args.name.now c.args.end c.args.form c.args.leads.now c.loop-lead.lead-index
-    c.lead-item.result c.loop-lead.tops.items c.add_end.new.ends.items c.loop-lead.blocks c.read_within.new.blocks at so part.0
+    c.lead-item.result c.loop-lead.tops.items c.add_end.new.ends.items _ c.read_within.new.blocks at so part.0
     (end_again c.loop-lead.tops.items c.add_end.new.ends.items c.as_slice.result.now c.lead-item.result.separator c.len.result c.read_within.new.blocks.ends.items
     c.in_ok-add_end.ensures c.as_slice.ensures (omega (arith, c.len.ensures, c.read_within.new.blocks.ends.ok.0)))
     part.1 reads.same_files steady
@@ -71,7 +71,7 @@ loop-lead-preserved g c =
 pub invariant_of-result : goal.invariant_of-result
 invariant_of-result g c =
     parts_table (g.F.Folder.held c.args.files.now) (g.F.Folder.held c.loop-lead.files) (g.F.Folder.faults c.args.files.now) (g.F.Folder.faults c.loop-lead.files)
-    c.args.name.now c.args.end c.args.form c.args.leads.now c.loop-lead.lead-index c.loop-lead.tops.items c.loop-lead.blocks c.loop-lead.invariant c.requires
+    c.args.name.now c.args.end c.args.form c.args.leads.now c.loop-lead.lead-index c.loop-lead.tops.items _ c.loop-lead.invariant c.requires
     (omega (arith, c.loop-lead-test.false))
 
 pub returns-clause-opens : goal.returns-clause-opens

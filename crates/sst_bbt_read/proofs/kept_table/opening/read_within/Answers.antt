@@ -1,4 +1,4 @@
-use Rattle.std.proofs.Common.{◌≡◌, ◌<◌, Bool, true, false, List, ◌∷◌, [], length, sym, subst, ap, arith}
+use Rattle.std.proofs.Common.{Bool, false, length, sym, subst, ap, arith}
 use Rattle.sst_bbt_spec.specs.IndexLeads.{LeadsWithin}
 use Rattle.sst_bbt_read.specs.KeptLeads.{AreLeads, pairs_of}
 use Rattle.sst_bbt_read.specs.OpeningFaults.{BlocksFail, WithinFails}
