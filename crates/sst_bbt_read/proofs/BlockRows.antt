@@ -9,7 +9,6 @@ use Rattle.sst_block.specs.declared.iter.BlockIter.{BlockIter}
 use Rattle.sst_block.specs.declared.row_form.RowForm.TheVariants.{Entries}
 use Rattle.sst_block.specs.Block.{Row, Block, IsRow, IsInternalKey, AreOrdered}
 use Rattle.sst_block.specs.Iter.{Walks, place_of}
-use Rattle.sst_block.specs.BlockReading.{Reads}
 use Rattle.sst_block.proofs.RowsCopied.{KeyAt, ValueAt, same_row, one_more}
 use Rattle.sst_bbt_spec.specs.Rows.{row_of, rows_of, HasSeq}
 use Rattle.sst_bbt_spec.proofs.EntriesOfRows.{entries-ordered}
@@ -18,8 +17,8 @@ use Rattle.sst_bbt_spec.proofs.RowsOf.{rows_of-append, length-key_of}
 
 -- a walk over a data block of so many rows stands at the n-th, and the rows before it were copied
 pub record Copied (block : List ℕ) (count : ℕ) (walk : BlockIter) (n : ℕ) (entries : List Entry) : Type 0 where
-  pub walks : (rows : List Row) → Reads Entries block rows → length rows ≡ count → Walks walk rows (place_of rows n)
-  pub copied : (rows : List Row) → Reads Entries block rows → length rows ≡ count → rows_of entries ≡ take n rows
+  pub walks : (rows : List Row) → Block Entries block rows → length rows ≡ count → Walks walk rows (place_of rows n)
+  pub copied : (rows : List Row) → Block Entries block rows → length rows ≡ count → rows_of entries ≡ take n rows
   pub seqs : All HasSeq entries
 
 -- a row of a data block has an internal key

@@ -1,109 +1,122 @@
--- What a table keeps of its data blocks as it grows by one.
-use Rattle.std.proofs.Common.{◌≡◌, ℕ, ◌+◌, ◌-◌, ◌<◌, ◌≤◌, false, List, [], ◌∷◌, ◌++◌, length, length-append, map, take, drop, All, refl, sym, ap, ◌∙◌, subst, arith}
+-- What a table keeps as it grows: data blocks behind those before, and parts of the index behind those before.
+use Rattle.std.proofs.Common.{◌≡◌, ℕ, ◌+◌, ◌-◌, ◌<◌, ◌≤◌, suc, false, List, [], ◌∷◌, ◌++◌, length, take, drop, All, refl, sym, ap, ◌∙◌, subst, arith}
 use Rattle.std.proofs.Math.Seq.{drop-append_seam}
 use Rattle.std.proofs.lemmas.List.{map-append, take_all, take-append-le, drop-append-le, length-drop}
-use Rattle.std.proofs.lemmas.List.Elements.{All-nil, All-cons, All-head, All-tail, All-push}
+use Rattle.std.proofs.lemmas.List.Elements.{All-nil, All-cons, All-head, All-tail}
 use Rattle.sst_key.specs.declared.entries.Entry.{Entry}
 use Rattle.sst_block.specs.declared.row_form.RowForm.TheVariants.{Index}
-use Rattle.sst_block.specs.Block.{Row, IsRow, AreOrdered}
-use Rattle.sst_block.proofs.RowsCopied.{KeyAt, one_more}
+use Rattle.sst_block.specs.Block.{AreOrdered}
+use Rattle.sst_bbt_spec.specs.Parts.{Part}
 use Rattle.sst_bbt_spec.specs.Way.{IndexedBlock}
-use Rattle.sst_bbt_read.specs.TableBlocks.{AreEntries, blocks_from, AreEnds, separator_rows}
-use Rattle.sst_bbt_read.specs.Reader.{BlockAdded}
-use Rattle.sst_bbt_read.specs.declared.kept_table.BlockEnd.{BlockEnd}
+use Rattle.sst_bbt_read.specs.GrownTable.{separators_of, lead_separators}
+use Rattle.sst_bbt_read.specs.KeptLeads.{AreLeads, lead_rows}
+use Rattle.sst_bbt_read.specs.TableBlocks.{AreEnds, AreSeparators, AreWithin, separator_rows, blocks_from, parts_from}
+use Rattle.sst_bbt_read.specs.declared.kept_table.RunEnd.{RunEnd}
+use Rattle.sst_bbt_read.specs.declared.kept_table.index_leads.IndexLead.{IndexLead}
 
-ends-push : (start : ℕ) (ends : List BlockEnd) (count : ℕ) (last : BlockEnd) → AreEnds start ends count → count < last.end → AreEnds start (ends ++ last ∷ []) last.end
-ends-push start [] count last are more = (omega (arith, are), omega arith, refl)
-ends-push start (b ∷ rest) count last are more = (are.0, omega (arith, are.1, more), ends-push b.end rest count last are.2 more)
+-- ---- runs behind runs
 
--- the ends of a table with one block more
-pub ends_more : (ends now : List BlockEnd) (entries all : List Entry) (key : List ℕ) (place : ℕ) → AreEnds 0 ends (length entries)
-    → now ≡ ends ++ record { separator = key; end = place } ∷ [] → BlockAdded entries all place → AreEnds 0 now (length all)
-ends_more ends now entries all key place are is added =
-    let last : BlockEnd = record { separator = key; end = place } in
-    let more : length entries < place = omega (arith, added.ends, ap length added.appended, length-append entries added.entries, added.some) in
-    subst (λ (n : ℕ). AreEnds 0 now n) added.ends
-    (subst (λ (es : List BlockEnd). AreEnds 0 es place) (sym is) (ends-push 0 ends (length entries) last are more))
+pub ends-order : (start : ℕ) (ends : List RunEnd) (count : ℕ) → AreEnds start ends count → start ≤ count
+ends-order start [] count are = omega (arith, are)
+ends-order start (b ∷ rest) count are = omega (arith, are.0, are.1)
+
+pub ends-append : (start : ℕ) (ends added : List RunEnd) (count more : ℕ) → AreEnds start ends count → AreEnds count added more → AreEnds start (ends ++ added) more
+ends-append start [] added count more are behind = subst (λ (n : ℕ). AreEnds n added more) (sym are) behind
+ends-append start (b ∷ rest) added count more are behind =
+    (are.0, omega (arith, are.1, ends-order count added more behind), ends-append b.end rest added count more are.2 behind)
+
+-- one run
+pub ends-one : (start : ℕ) (last : RunEnd) → start < last.end → AreEnds start (last ∷ []) last.end
+ends-one start last more = (more, omega arith, refl)
+
+-- a front of a list stays as the list grows
+front_same : {A : Type 0} (start end : ℕ) (xs more : List A) → start ≤ end → end ≤ length xs → take (end - start) (drop start (xs ++ more)) ≡ take (end - start) (drop start xs)
+front_same start end xs more order within =
+    let begins : start ≤ length xs = omega arith in
+    ap (λ l. take (end - start) l) (drop-append-le start xs more begins) ∙ take-append-le (end - start) (drop start xs) more (omega (arith, length-drop start xs))
+
+-- what is added stands behind
+pub all_added : {A : Type 0} (start end : ℕ) (xs added : List A) → start ≡ length xs → end ≡ length xs + length added → take (end - start) (drop start (xs ++ added)) ≡ added
+all_added start end xs added begins ends =
+    ap (λ (n : ℕ). take (end - start) (drop n (xs ++ added))) begins ∙ ap (λ l. take (end - start) l) (drop-append_seam xs added) ∙ take_all (end - start) added (omega arith)
+
+-- ---- data blocks
 
 block_made : (separator : List ℕ) (a b : List Entry) → a ≡ b → ◌≡◌ {A = IndexedBlock} (record { separator = separator; entries = a }) (record { separator = separator; entries = b })
 block_made separator a b same = rw same refl
 
--- entries that end before those that are added
-before_added : (start end : ℕ) (entries added : List Entry) → start ≤ end → end ≤ length entries
-    → take (end - start) (drop start (entries ++ added)) ≡ take (end - start) (drop start entries)
-before_added start end entries added order within =
-    let begins : start ≤ length entries = omega arith in
-    ap (λ (l : List Entry). take (end - start) l) (drop-append-le start entries added begins)
-    ∙ take-append-le (end - start) (drop start entries) added (omega (arith, length-drop start entries))
-
--- those that are added
-all_added : (start end : ℕ) (entries added : List Entry) → start ≡ length entries → end ≡ length entries + length added
-    → take (end - start) (drop start (entries ++ added)) ≡ added
-all_added start end entries added begins ends =
-    ap (λ (n : ℕ). take (end - start) (drop n (entries ++ added))) begins ∙ ap (λ (l : List Entry). take (end - start) l) (drop-append_seam entries added)
-    ∙ take_all (end - start) added (omega arith)
-
-blocks-push : (start : ℕ) (ends : List BlockEnd) (entries added : List Entry) (last : BlockEnd) → AreEnds start ends (length entries) → last.end ≡ length entries + length added
-    → blocks_from start (ends ++ last ∷ []) (entries ++ added) ≡ blocks_from start ends entries ++ record { separator = last.separator; entries = added } ∷ []
-blocks-push start [] entries added last are ends =
-    ap (λ (b : IndexedBlock). b ∷ []) (block_made last.separator _ added (all_added start last.end entries added are ends))
-blocks-push start (b ∷ rest) entries added last are ends =
+pub blocks-append : (start : ℕ) (ends added : List RunEnd) (entries more : List Entry) → AreEnds start ends (length entries)
+    → blocks_from start (ends ++ added) (entries ++ more) ≡ blocks_from start ends entries ++ blocks_from (length entries) added (entries ++ more)
+blocks-append start [] added entries more are = ap (λ (n : ℕ). blocks_from n added (entries ++ more)) are
+blocks-append start (b ∷ rest) added entries more are =
     let order : start ≤ b.end = omega (arith, are.0) in
-    let first = block_made b.separator _ (take (b.end - start) (drop start entries)) (before_added start b.end entries added order are.1) in
-    ap (λ (x : IndexedBlock). x ∷ blocks_from b.end (rest ++ last ∷ []) (entries ++ added)) first
-    ∙ ap (λ (bs : List IndexedBlock). record { separator = b.separator; entries = take (b.end - start) (drop start entries) } ∷ bs) (blocks-push b.end rest entries added last are.2 ends)
+    let first = block_made b.separator _ (take (b.end - start) (drop start entries)) (front_same start b.end entries more order are.1) in
+    ap (λ (x : IndexedBlock). x ∷ blocks_from b.end (rest ++ added) (entries ++ more)) first
+    ∙ ap (λ (bs : List IndexedBlock). record { separator = b.separator; entries = take (b.end - start) (drop start entries) } ∷ bs)
+    (blocks-append b.end rest added entries more are.2)
 
--- its blocks
-pub blocks_more : (ends now : List BlockEnd) (entries all : List Entry) (key : List ℕ) (place : ℕ) → AreEnds 0 ends (length entries)
-    → now ≡ ends ++ record { separator = key; end = place } ∷ [] → (added : BlockAdded entries all place)
-    → blocks_from 0 now all ≡ blocks_from 0 ends entries ++ record { separator = key; entries = added.entries } ∷ []
-blocks_more ends now entries all key place are is added =
-    let last : BlockEnd = record { separator = key; end = place } in
-    let long : place ≡ length entries + length added.entries = omega (arith, added.ends, ap length added.appended, length-append entries added.entries) in
-    ap (λ (es : List BlockEnd). blocks_from 0 es all) is ∙ ap (blocks_from 0 (ends ++ last ∷ [])) added.appended
-    ∙ blocks-push 0 ends entries added.entries last are long
+-- the one block that is added
+pub blocks-one : (entries added : List Entry) (last : RunEnd) → last.end ≡ length entries + length added
+    → blocks_from (length entries) (last ∷ []) (entries ++ added) ≡ record { separator = last.separator; entries = added } ∷ []
+blocks-one entries added last ends = ap (λ (b : IndexedBlock). b ∷ []) (block_made last.separator _ added (all_added (length entries) last.end entries added refl ends))
 
--- and the entries of each are those of a data block
-pub are_more : (blocks now : List IndexedBlock) (block : IndexedBlock) → now ≡ blocks ++ block ∷ [] → All (λ (b : IndexedBlock). AreEntries b.entries) blocks
-    → AreEntries block.entries → All (λ (b : IndexedBlock). AreEntries b.entries) now
-are_more blocks now block is all more =
-    subst (All (λ (b : IndexedBlock). AreEntries b.entries)) (sym is) (All-push (λ (b : IndexedBlock). AreEntries b.entries) blocks block all more)
+pub blocks-count : (start : ℕ) (ends : List RunEnd) (entries : List Entry) → length (blocks_from start ends entries) ≡ length ends
+blocks-count start [] entries = refl
+blocks-count start (b ∷ rest) entries = ap suc (blocks-count b.end rest entries)
 
--- the separators are the keys of index rows
-abbrev pub keys_of : List Row → List (List ℕ)
-keys_of rows = map (λ (row : Row). row.key) rows
+-- ---- parts
 
-abbrev pub separators_of : List BlockEnd → List (List ℕ)
-separators_of ends = map (λ (b : BlockEnd). b.separator) ends
+part_made : (separator : List ℕ) (a b : List IndexedBlock) → a ≡ b → ◌≡◌ {A = Part} (record { separator = separator; blocks = a }) (record { separator = separator; blocks = b })
+part_made separator a b same = rw same refl
 
--- one separator more
-pub keys_more : (rows : List Row) (n : ℕ) (ends now : List BlockEnd) (key : List ℕ) (place : ℕ) → separators_of ends ≡ keys_of (take n rows) → KeyAt rows n key
-    → now ≡ ends ++ record { separator = key; end = place } ∷ [] → separators_of now ≡ keys_of (take (n + 1) rows)
-keys_more rows n ends now key place before (row, at, k) is =
-    let last : BlockEnd = record { separator = key; end = place } in
-    ap separators_of is ∙ map-append (λ (b : BlockEnd). b.separator) ends (last ∷ [])
-    ∙ ap (λ (ks : List (List ℕ)). ks ++ key ∷ []) before ∙ ap (λ (s : List ℕ). keys_of (take n rows) ++ s ∷ []) k
-    ∙ sym (map-append (λ (r : Row). r.key) (take n rows) (row ∷ [])) ∙ ap keys_of (one_more rows n row at)
+pub parts-push : (start : ℕ) (tops : List RunEnd) (blocks added : List IndexedBlock) (last : RunEnd) → AreEnds start tops (length blocks)
+    → last.end ≡ length blocks + length added
+    → parts_from start (tops ++ last ∷ []) (blocks ++ added) ≡ parts_from start tops blocks ++ record { separator = last.separator; blocks = added } ∷ []
+parts-push start [] blocks added last are ends = ap (λ (p : Part). p ∷ []) (part_made last.separator _ added (all_added start last.end blocks added are ends))
+parts-push start (t ∷ rest) blocks added last are ends =
+    let order : start ≤ t.end = omega (arith, are.0) in
+    let first = part_made t.separator _ (take (t.end - start) (drop start blocks)) (front_same start t.end blocks added order are.1) in
+    ap (λ (p : Part). p ∷ parts_from t.end (rest ++ last ∷ []) (blocks ++ added)) first
+    ∙ ap (λ (ps : List Part). record { separator = t.separator; blocks = take (t.end - start) (drop start blocks) } ∷ ps) (parts-push t.end rest blocks added last are.2 ends)
 
-pub separators-ordered : (ends : List BlockEnd) (rows : List Row) → separators_of ends ≡ keys_of rows → AreOrdered (Index false false) rows
+-- the separators of the data blocks of each part
+pub within-push : (start : ℕ) (tops ends added : List RunEnd) (last : RunEnd) → AreEnds start tops (length ends) → last.end ≡ length ends + length added
+    → AreWithin start tops ends → AreSeparators added → AreWithin start (tops ++ last ∷ []) (ends ++ added)
+within-push start [] ends added last are place within more = (subst AreSeparators (sym (all_added start last.end ends added are place)) more, tt)
+within-push start (t ∷ rest) ends added last are place within more =
+    let order : start ≤ t.end = omega (arith, are.0) in (
+      subst AreSeparators (sym (front_same start t.end ends added order are.1)) within.0,
+      within-push t.end rest ends added last are.2 place within.1 more,
+    )
+
+-- ---- separators
+
+pub separators-append : (ends added : List RunEnd) → separators_of (ends ++ added) ≡ separators_of ends ++ separators_of added
+separators-append ends added = map-append (λ (b : RunEnd). b.separator) ends added
+
+-- runs with the separators of rows have stored keys in order
+separators-long : (ends : List RunEnd) (leads : List IndexLead) → separators_of ends ≡ lead_separators leads → All (λ (lead : IndexLead). 8 ≤ length lead.separator) leads
+    → All (λ (b : RunEnd). 8 ≤ length b.separator) ends
+separators-long [] leads same long = All-nil (λ (b : RunEnd). 8 ≤ length b.separator)
+separators-long (b ∷ rest) [] same long = absurd (cc)
+separators-long (b ∷ rest) (lead ∷ leads) same long =
+    let one : b.separator ≡ lead.separator = cc in
+    let more : separators_of rest ≡ lead_separators leads = cc in
+    let first : 8 ≤ length lead.separator = All-head (λ (l : IndexLead). 8 ≤ length l.separator) lead leads long in
+    All-cons (λ (b : RunEnd). 8 ≤ length b.separator) b rest (subst (λ (l : List ℕ). 8 ≤ length l) (sym one) first)
+    (separators-long rest leads more (All-tail (λ (l : IndexLead). 8 ≤ length l.separator) lead leads long))
+
+separators-ordered : (ends : List RunEnd) (leads : List IndexLead) → separators_of ends ≡ lead_separators leads → AreOrdered (Index false false) (lead_rows leads)
     → AreOrdered (Index false false) (separator_rows ends)
-separators-ordered [] rows same ordered = tt
-separators-ordered (b ∷ []) rows same ordered = tt
+separators-ordered [] leads same ordered = tt
+separators-ordered (b ∷ []) leads same ordered = tt
 separators-ordered (b ∷ c ∷ rest) [] same ordered = absurd (cc)
-separators-ordered (b ∷ c ∷ rest) (row ∷ []) same ordered = absurd (cc)
-separators-ordered (b ∷ c ∷ rest) (row ∷ next ∷ rows) same ordered =
-    let one : b.separator ≡ row.key = cc in
-    let two : c.separator ≡ next.key = cc in
-    let more : separators_of (c ∷ rest) ≡ keys_of (next ∷ rows) = cc in
-    (rw (one, two) ordered.0, separators-ordered (c ∷ rest) (next ∷ rows) more ordered.1)
+separators-ordered (b ∷ c ∷ rest) (lead ∷ []) same ordered = absurd (cc)
+separators-ordered (b ∷ c ∷ rest) (lead ∷ next ∷ leads) same ordered =
+    let one : b.separator ≡ lead.separator = cc in
+    let two : c.separator ≡ next.separator = cc in
+    let more : separators_of (c ∷ rest) ≡ lead_separators (next ∷ leads) = cc in
+    (rw (one, two) ordered.0, separators-ordered (c ∷ rest) (next ∷ leads) more ordered.1)
 
-pub separators-long : (ends : List BlockEnd) (rows : List Row) → separators_of ends ≡ keys_of rows → All (IsRow (Index false false)) rows
-    → All (λ (b : BlockEnd). 8 ≤ length b.separator) ends
-separators-long [] rows same forms = All-nil (λ (b : BlockEnd). 8 ≤ length b.separator)
-separators-long (b ∷ rest) [] same forms = absurd (cc)
-separators-long (b ∷ rest) (row ∷ rows) same forms =
-    let one : b.separator ≡ row.key = cc in
-    let more : separators_of rest ≡ keys_of rows = cc in
-    let long : 8 ≤ length row.key = (All-head (IsRow (Index false false)) row rows forms).1.0 in
-    All-cons (λ (b : BlockEnd). 8 ≤ length b.separator) b rest (subst (λ (l : List ℕ). 8 ≤ length l) (sym one) long)
-    (separators-long rest rows more (All-tail (IsRow (Index false false)) row rows forms))
+pub separators-are : (ends : List RunEnd) (leads : List IndexLead) → separators_of ends ≡ lead_separators leads → AreLeads leads → AreSeparators ends
+separators-are ends leads same are = record { long = separators-long ends leads same are.long; ordered = separators-ordered ends leads same are.ordered }

@@ -1,6 +1,8 @@
 pub mod Cursors
 pub mod FaultText
+pub mod GrownTable
 pub mod Kept
+pub mod KeptLeads
 pub mod OpeningFaults
 pub mod OpeningSteps
 pub mod Positions

@@ -1,7 +1,6 @@
 //! The rows of data blocks that were checked, as the entries that they stand for.
-ghost use Rattle.std.specs.Prelude.{◌≡◌, ◌≤◌, ◌^◌, List, ◌++◌, length, IfOk, OnOk};
-ghost use Rattle.sst_block.specs.Block.{Row, IsInternalKey};
-ghost use Rattle.sst_block.specs.BlockReading.{Reads};
+ghost use Rattle.std.specs.Prelude.{◌≡◌, List, ◌++◌, length, IfOk, OnOk};
+ghost use Rattle.sst_block.specs.Block.{Row, Block, IsInternalKey};
 ghost use Rattle.sst_block.specs.declared.row_form.RowForm.TheVariants.{Entries};
 ghost use Rattle.sst_key.specs.declared.entries.Entry.{Entry};
 ghost use Rattle.sst_bbt_spec.specs.Rows.{rows_of, row_of, HasSeq};
@@ -41,9 +40,8 @@ pub fn add_entries(
     count: u32,
     entries: &mut Vec<Entry>,
 ) -> Result<(), Memory>
-    requires short { length block.now ≤ 2 ^ 29 }
-    requires read { (rows : List Row) × Reads Entries block.now rows × (length rows ≡ count) }
-    ensures rows { OnOk result ((rows : List Row) → Reads Entries block.now rows → length rows ≡ count
+    requires { (rows : List Row) × Block Entries block.now rows × (length rows ≡ count) }
+    ensures rows { OnOk result ((rows : List Row) → Block Entries block.now rows → length rows ≡ count
         → (added : List Entry) × (entries.new.items ≡ entries.old.items ++ added) × (rows ≡ rows_of added) × AreEntries added) }
 {
     let room = KeyRoom::new(alloc)?;
