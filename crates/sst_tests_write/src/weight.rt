@@ -9,9 +9,11 @@ use std::test::Fail;
 
 /// The options of a file whose data blocks end late.
 const OPTIONS: BbtOptions = BbtOptions {
+    version: 2,
     block_size: 16_777_216,
     restart: 16,
     index_restart: 1,
+    parts: 0,
 };
 
 /// The length of the values that are lent again and again: the most that a value has.
