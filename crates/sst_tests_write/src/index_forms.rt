@@ -300,6 +300,6 @@ static FORMS: [Written; 6] = [
 ];
 
 #[test]
-fn forms_of_many_blocks(rt: HostRuntime) -> Result<(), Fail> {
+fn files_of_versions(rt: HostRuntime) -> Result<(), Fail> {
     assert_files(&rt, rt.alloc(), &FORMS)
 }
