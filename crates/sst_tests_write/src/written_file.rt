@@ -37,6 +37,7 @@ pub(crate) const PLAIN: Form = Form {
 };
 
 /// What stands behind the index in a written file, as far as it isn't the same in each, in hex digits.
+#[derive(Clone, Copy)]
 pub(crate) struct Behind {
     /// The version and the form of the index.
     pub(crate) form: Form,
