@@ -90,21 +90,13 @@ for round in $(seq "$rounds"); do
     printf 'round %s of %s\n' "$round" "$rounds" >&2
 done
 
-# Up to the properties the two last files are the same: the data blocks and the index block, each with its trailer. Where
-# the properties of ours begin, the metaindex says; its handle is in the footer, and both are read by their bytes here.
-properties_start() {
-    local size
-    size=$(stat -c %s "$1")
-    tail -c 53 "$1" | od -An -v -tu1 -w53 | awk '
-        function number(    v, m) { v = 0; m = 1; while ($at >= 128) { v += ($at - 128) * m; m *= 128; at++ } v += $at * m; at++; return v }
-        { at = 2; print number(), number() }'
-}
-same=$(awk -v line="$(properties_start "$room/ours.sst")" 'BEGIN { split(line, n, " "); print n[1] }')
-names=$(tail -c "+$((same + 1))" "$room/ours.sst" | head -c 64 | od -An -v -tu1 -w64 | awk '
+# Up to the index the two last files are the same: the data blocks, each with its trailer. Where the index block of ours begins,
+# the footer says by the second of its handles, which are read by their bytes here.
+same=$(tail -c 53 "$room/ours.sst" | od -An -v -tu1 -w53 | awk '
     function number(    v, m) { v = 0; m = 1; while ($at >= 128) { v += ($at - 128) * m; m *= 128; at++ } v += $at * m; at++; return v }
-    { at = 4 + $2; print number() }')
-cmp -n "$names" "$room/ours.sst" "$room/theirs.sst" >&2 || die 'the data blocks or the index blocks differ'
-printf 'the data blocks and the index blocks are the same bytes\n'
+    { at = 2; number(); number(); print number() }')
+cmp -n "$same" "$room/ours.sst" "$room/theirs.sst" >&2 || die 'the data blocks differ'
+printf 'the data blocks are the same bytes\n'
 
 # The last file is the largest. RocksDB's own tool reads it whole and checks its checksums, where it is there.
 if command -v sst_dump >/dev/null; then

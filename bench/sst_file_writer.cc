@@ -3,8 +3,8 @@
 //   sst_file_writer OUT BLOCK < LINES
 //
 // bench/run.sh compares `sst write block OUT block=BLOCK` with it. The file has version 2, masked CRC32C checksums, no
-// compression and no filter. A data block ends where it has BLOCK bytes, without a look at the next entry, and separators
-// aren't shortened: so the data blocks and the index are those of `sst`. SstFileWriter gives each entry the sequence number
+// compression and no filter. A data block ends where it has BLOCK bytes, without a look at the next entry: so the data blocks are
+// those of `sst`. SstFileWriter gives each entry the sequence number
 // 0, and more properties.
 //
 // It takes lines of kind P with sequence number 0 alone, and prints `wrote N` as `sst` does.
@@ -74,7 +74,6 @@ int main(int count, char **words) {
   table.checksum = rocksdb::kCRC32c;
   table.block_size = strtoull(words[2], nullptr, 10);
   table.block_size_deviation = 0;
-  table.index_shortening = rocksdb::BlockBasedTableOptions::IndexShorteningMode::kNoShortening;
   table.filter_policy = nullptr;
   rocksdb::Options options;
   options.compression = rocksdb::kNoCompression;

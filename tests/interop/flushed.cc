@@ -2,20 +2,24 @@
 //
 //   flushed flush DIR VIEWS [WORD=N]..    a database in DIR is filled and flushed
 //   flushed file OUT                      a file of SstFileWriter, which has a global sequence number
+//   flushed walk FILE                     what SstFileReader shows of a file, forward and then back
 //
-// The words of `flush`, and what stands without them: version=2, block=256 (bytes of a data block), restart=16 (rows from one
-// restart to the next, in data blocks and in the index; a hash-search index has a restart for each row), hash=0 (1 for a
-// hash-search index), count=300 entries, keys=300 user keys, each with as many versions as come to it, which snapshots keep, and
-// least=0 bytes of a value.
+// The words of `flush`, and what stands without them: version=2, checksum=1 (masked CRC32C; its number in include/rocksdb/table.h),
+// block=256 (bytes of a data block), restart=16 (rows from one restart to the next in a data block), index_restart=1 (the same in an
+// index block; a hash-search index has a restart for each row), hash=0 (1 for a hash-search index), part=0 (an index of two levels,
+// whose parts are ended at so many bytes), count=300 entries, keys=300 user keys, each with as many versions as come to it, which
+// snapshots keep, and least=0 bytes of a value.
 //
-// The files aren't compressed and have masked CRC32C checksums. Of `flush` the entry lines are printed as they were
+// The files aren't compressed. Of `flush` the entry lines are printed as they were
 // written, `USER SEQ KIND VALUE`; the flushed file has them in the order of keys. VIEWS becomes a file of what the database
-// itself, once it is flushed, answers at some snapshots for each user key: `SEQ USER VALUE`, or `SEQ USER none`.
+// itself, once it is flushed, answers at some snapshots for each user key: `SEQ USER VALUE`, or `SEQ USER none`. Of `walk` a line
+// `USER VALUE` is printed for each user key that has a value now, forward; and all once more, back.
 #include <rocksdb/db.h>
 #include <rocksdb/env.h>
 #include <rocksdb/merge_operator.h>
 #include <rocksdb/options.h>
 #include <rocksdb/slice_transform.h>
+#include <rocksdb/sst_file_reader.h>
 #include <rocksdb/sst_file_writer.h>
 #include <rocksdb/table.h>
 
@@ -65,15 +69,19 @@ void check(const rocksdb::Status &status) {
 rocksdb::Options options_of(const Form &form) {
   rocksdb::BlockBasedTableOptions table;
   table.format_version = form.at("version");
-  table.checksum = rocksdb::kCRC32c;
+  table.checksum = static_cast<rocksdb::ChecksumType>(form.at("checksum"));
   table.block_size = form.at("block");
   table.block_restart_interval = static_cast<int>(form.at("restart"));
-  table.index_block_restart_interval = table.block_restart_interval;
+  table.index_block_restart_interval = static_cast<int>(form.at("index_restart"));
   table.filter_policy = nullptr;
   rocksdb::Options options;
   if (form.at("hash") == 1) {
     table.index_type = rocksdb::BlockBasedTableOptions::kHashSearch;
     options.prefix_extractor.reset(rocksdb::NewFixedPrefixTransform(2));
+  }
+  if (form.at("part") > 0) {
+    table.index_type = rocksdb::BlockBasedTableOptions::kTwoLevelIndexSearch;
+    table.metadata_block_size = form.at("part");
   }
   options.compression = rocksdb::kNoCompression;
   options.table_factory.reset(rocksdb::NewBlockBasedTableFactory(table));
@@ -147,6 +155,21 @@ int file(const std::string &out, const Form &form) {
   return 0;
 }
 
+void print(const rocksdb::Iterator &entries) {
+  printf("%s %s\n", hex(entries.key().ToString()).c_str(), hex(entries.value().ToString()).c_str());
+}
+
+int walk(const std::string &name, const Form &form) {
+  rocksdb::SstFileReader reader(options_of(form));
+  check(reader.Open(name));
+  check(reader.VerifyChecksum());
+  std::unique_ptr<rocksdb::Iterator> entries(reader.NewIterator(rocksdb::ReadOptions()));
+  for (entries->SeekToFirst(); entries->Valid(); entries->Next()) print(*entries);
+  for (entries->SeekToLast(); entries->Valid(); entries->Prev()) print(*entries);
+  check(entries->status());
+  return 0;
+}
+
 // Takes a word `NAME=N` of a name that the form has.
 bool take(const char *word, Form *form) {
   const char *equals = strchr(word, '=');
@@ -160,11 +183,13 @@ bool take(const char *word, Form *form) {
 }  // namespace
 
 int main(int count, char **words) {
-  Form form = {{"version", 2}, {"block", 256}, {"restart", 16}, {"hash", 0}, {"count", 300}, {"keys", 300}, {"least", 0}};
+  Form form = {{"version", 2}, {"checksum", 1}, {"block", 256}, {"restart", 16}, {"index_restart", 1},
+               {"hash", 0},    {"part", 0},     {"count", 300}, {"keys", 300},   {"least", 0}};
   bool understood = true;
   for (int i = 4; i < count; i++) understood = understood && take(words[i], &form);
   if (understood && count >= 4 && std::string(words[1]) == "flush") return flush(words[2], words[3], form);
   if (count == 3 && std::string(words[1]) == "file") return file(words[2], form);
-  fprintf(stderr, "usage: flushed flush DIR VIEWS [WORD=N].. | flushed file OUT\n");
+  if (count == 3 && std::string(words[1]) == "walk") return walk(words[2], form);
+  fprintf(stderr, "usage: flushed flush DIR VIEWS [WORD=N].. | flushed file OUT | flushed walk FILE\n");
   return 1;
 }

@@ -11,16 +11,18 @@ use std::rt::Files;
 
 /// The commands and their options, which standard error shows where the words are none of them.
 const PAGE: &str = "\
-usage: sst write block OUT [block=N] [restart=N] [index-restart=N] < INPUT
+usage: sst write block OUT [version=N] [block=N] [restart=N] [index-restart=N] [parts=N] < INPUT
        sst calls FILE < INPUT
        sst get FILE USER SEQ
        sst scan FILE [SEQ]
 
 write  reads entry lines, USER SEQ KIND VALUE, and writes the block-based table file of their list as OUT
+       version=N        the version of the format: 2, 3 or 4, else 2
        block=N          a data block with N bytes or more is ended before the next entry;
                         N is 64 to 16777216, and 4096 without the option
        restart=N        each N-th entry of a data block has its whole key; 1 to 65536, else 16
        index-restart=N  the same of the rows of the index; 1 to 65536, else 1
+       parts=N          the index is cut into parts of N rows; 0 to 65536; with 0, or without it, it is whole
 calls  reads call lines, and answers each from FILE: get USER SEQ, first, last, seek USER SEQ,
        seek_for_prev USER SEQ, next, prev
 get    prints the newest entry of the user key in FILE that the snapshot SEQ sees, or none;

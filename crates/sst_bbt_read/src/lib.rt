@@ -29,11 +29,10 @@
 //! - [`BbtReader::open`] answers the data blocks that the file reads as (`blocks_read`, specs/Opening.antt), or the first thing that is
 //!   wrong in the order of loading, index, data blocks; a checksum that differs is named before a row of its block is read.
 //!   No file changes, and a fault of the folder is answered as one.
-//! - A file opens to data blocks exactly where it reads as them ([`a_file_opens_to_its_blocks`]); a fault that is read is
-//!   one that the file shows ([`a_fault_is_shown`]); and a file that opens shows none
-//!   ([`a_file_that_opens_shows_no_fault`]).
-//! - Of several things that are wrong with a file, the one whose step comes first is named: the steps of loading, the index, the
-//!   data blocks in the order of the index (`OpenStep`, specs/OpeningSteps.antt; [`the_fault_of_opening_is_the_first`]).
+//! - Each file opens to parts or fails to open with one fault, and not both ([`a_file_opens_or_fails`]); that fault is one
+//!   that the file shows, and a file that opens shows none ([`a_file_that_opens_shows_no_fault`]).
+//! - Of several things that are wrong with a file, the one whose step comes first is named: the steps of loading, the top block
+//!   of the index, and each part with its data blocks (`OpenStep`, specs/OpeningSteps.antt; [`the_fault_of_opening_is_the_first`]).
 //! - A [`BbtReader`] has one seat for each [`Cursor`] that may be open at a time. On a file that opens, each call moves its cursor
 //!   as the way of the index says (`way_answer`, sst_bbt_spec); on one that stands for a list, as the list machine says. Every
 //!   other cursor stays where it stood (`OthersStay`, specs/Positions.antt). So each cursor answers as if it were alone.
@@ -65,6 +64,5 @@ pub use bbt_fault::BbtFault;
 pub use bbt_reader::BbtReader;
 pub use cursor::{Cursor, CursorStop};
 pub use opening_laws::{
-    a_fault_is_shown, a_file_opens_to_its_blocks, a_file_that_opens_shows_no_fault,
-    the_fault_of_opening_is_the_first,
+    a_file_opens_or_fails, a_file_that_opens_shows_no_fault, the_fault_of_opening_is_the_first,
 };

@@ -15,7 +15,7 @@ use Rattle.sst_bbt_spec.specs.PartRuns.{PartsRun}
 
 -- The file opens to these parts: what it says of itself and all its blocks are good. Nothing is said of the separators:
 -- where they don't separate, the file opens, and a target leads where its index does (PartWay).
--- Pinned by: a_file_opens_to_its_parts, a_file_stands_for_one_list
+-- Pinned by: a_file_opens_or_fails, a_file_stands_for_one_list
 pub record Opens (file : List ℕ) (parts : List Part) : Type 0 where
   pub loaded : Loaded
   pub meta : Meta file loaded

@@ -1,7 +1,7 @@
 -- What separates the parts of an index, and the list that runs through them.
 -- RocksDB: PartitionedIndexBuilder in table/block_based/index_builder.h, which gives a part the separator of its last
 -- row; wiki page "Partitioned Index Filters".
--- Pinned by: what_stands_in_parts_is_ordered, a_separated_tree_runs, a_whole_index_is_parts_of_one_block,
+-- Pinned by: what_a_file_stands_for_is_ordered, a_separated_file_stands, a_whole_index_is_parts_of_one_block,
 -- the_tree_decides
 use Rattle.std.specs.Prelude.{◌≡◌, ◌≢◌, ℕ, List, [], ◌∷◌, map}
 use Rattle.std.specs.declared.cmp.Ordering.TheVariants.{Greater}
@@ -40,6 +40,6 @@ SeparateWithin [] = Unit {0}
 SeparateWithin (part ∷ rest) = Separate part.blocks × SeparateWithin rest
 
 -- the separators separate: those of each part its blocks, and those of the top block the parts
--- Pinned by: the_way_over_parts_is_the_lists, what_stands_in_parts_is_ordered
+-- Pinned by: the_way_over_parts_is_the_lists, what_a_file_stands_for_is_ordered
 abbrev pub SeparateParts : List Part → Type 0
 SeparateParts parts = SeparateWithin parts × Separate (map whole_of parts)

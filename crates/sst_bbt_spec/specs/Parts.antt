@@ -8,7 +8,7 @@ use Rattle.sst_key.specs.declared.entries.Entry.{Entry}
 use Rattle.sst_bbt_spec.specs.Way.{IndexedBlock, joined}
 
 -- a part of the index as a table has it: its separator in the top block, and the data blocks to which its rows lead
--- Pinned by: the_tree_decides, an_index_leads_to_one_tree
+-- Pinned by: the_tree_decides, a_file_stands_for_one_list
 pub record Part : Type 0 where
   pub separator : List ℕ
   pub blocks : List IndexedBlock

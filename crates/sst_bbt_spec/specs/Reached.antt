@@ -2,7 +2,7 @@
 -- the part to which the row `i` of the top block leads; the data block to which the row `j` of that part leads. Whether
 -- what they lead to is good isn't said.
 -- RocksDB: BlockBasedTable::Open and NewDataBlockIterator in table/block_based/block_based_table_reader.cc.
--- Pinned by: a_fault_is_shown, a_file_that_opens_shows_no_fault
+-- Pinned by: a_file_that_opens_shows_no_fault, the_fault_of_opening_is_the_first
 use Rattle.std.specs.Prelude.{◌≡◌, ℕ, Bool, true, false, List, Some, slice_get}
 use Rattle.sst_num.specs.declared.block_handle.Handle.{Handle}
 use Rattle.sst_block.specs.IndexRows.{IndexPair}

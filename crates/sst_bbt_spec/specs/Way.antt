@@ -17,7 +17,7 @@ use Rattle.sst_key.specs.InternalKey.{user_of, tag_of, internal_cmp}
 use Rattle.sst_key.specs.ListMachine.{is_before_target, is_up_to_target, is_of_user, where_passes, place_in, place_before, first_of, last_of, steps_on, steps_back, shows, lands}
 
 -- a data block as a table has it: its separator, which the index has as a stored key, and its entries
--- Pinned by: a_file_opens_to_its_blocks
+-- Pinned by: a_file_stands_for_one_list
 pub record IndexedBlock : Type 0 where
   pub separator : List ℕ
   pub entries : List Entry
@@ -115,18 +115,18 @@ way_replies blocks calls = way_replies_from blocks None calls
 
 -- the entry isn't after the separator
 -- RocksDB: InternalKeyComparator
--- Pinned by: the_way_is_the_lists, a_file_that_stands_is_separated, a_key_between_separates
+-- Pinned by: the_way_is_the_lists, what_a_file_stands_for_is_ordered, a_key_between_separates
 abbrev pub IsUpToSeparator : List ℕ → Entry → Type 0
 IsUpToSeparator separator e = internal_cmp (key_of e) separator ≢ Greater
 
 -- the entry is after the separator
 -- RocksDB: InternalKeyComparator
--- Pinned by: the_way_is_the_lists, a_file_that_stands_is_separated, a_key_between_separates
+-- Pinned by: the_way_is_the_lists, what_a_file_stands_for_is_ordered, a_key_between_separates
 abbrev pub IsAfterSeparator : List ℕ → Entry → Type 0
 IsAfterSeparator separator e = internal_cmp separator (key_of e) ≡ Less
 
 -- the separators separate: no entry of a block is after its separator, and each entry of the blocks after it is
--- Pinned by: the_way_is_the_lists, a_file_that_stands_is_separated, a_key_between_separates
+-- Pinned by: the_way_is_the_lists, what_a_file_stands_for_is_ordered, a_key_between_separates
 abbrev pub Separate : List IndexedBlock → Type 0
 Separate [] = Unit {0}
 Separate (block ∷ rest) =

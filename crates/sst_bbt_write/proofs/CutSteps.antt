@@ -1,11 +1,11 @@
 -- How a list that is cut into blocks is cut with one entry more.
-use Rattle.std.proofs.Common.{◌≡◌, ◌<◌, true, false, if◌then◌else◌, nat_lt, List, [], ◌∷◌, ◌++◌, length, All, refl, sym, ap, ◌∙◌, subst, append_assoc, arith}
+use Rattle.std.proofs.Common.{◌≡◌, ◌<◌, true, false, if◌then◌else◌, nat_lt, List, [], ◌∷◌, ◌++◌, length, length-append, All, refl, sym, ap, ◌∙◌, subst, append_assoc, arith}
 use Rattle.std.proofs.lemmas.Bool.{lt-ltb}
 use Rattle.std.proofs.lemmas.List.{append-nil}
 use Rattle.std.proofs.lemmas.List.Elements.{All-nil, All-push}
 use Rattle.sst_key.specs.declared.entries.Entry.{Entry}
-use Rattle.sst_bbt_write.specs.Cut.{Blocks, add_entry, cut_from, cut_of, is_full, entries_in, blocks_for}
-use Rattle.sst_bbt_write.specs.Keeps.{HasEntry, ended_now, ended_last, with_room, with_entry}
+use Rattle.sst_bbt_write.specs.Cut.{Blocks, add_entry, blocks_for, cut_from, cut_of, ended_all, entries_in, is_full}
+use Rattle.sst_bbt_write.specs.Keeps.{HasEntry, IsBegun, all_ended, ended_now, ended_last, with_room, with_entry}
 use Rattle.sst_bbt_write.specs.declared.bbt_options.BbtOptions.{BbtOptions}
 
 -- an entry more comes last
@@ -53,7 +53,7 @@ of-entry entries cut e are =
     }
 
 -- a full block has an entry
-full-some : (options : BbtOptions) (block : List Entry) → is_full options block ≡ true → 0 < length block
+pub full-some : (options : BbtOptions) (block : List Entry) → is_full options block ≡ true → 0 < length block
 full-some options [] full = absurd (cc)
 full-some options (e ∷ rest) full = omega arith
 
@@ -81,18 +81,41 @@ cut_of-of options entries =
     cut_from-of options [] (record { ended = []; current = [] }) entries (record { joined = refl; filled = All-nil HasEntry })
 
 -- the blocks of a list are those that are ended once the last one is
-pub blocks-last : (options : BbtOptions) (entries : List Entry) → (ended_last (cut_of options entries)).ended ≡ blocks_for options entries
+pub blocks-last : (options : BbtOptions) (entries : List Entry) → ended_all (cut_of options entries) ≡ blocks_for options entries
 unfolding blocks_for
-blocks-last options entries =
-    let cut = cut_of options entries in
-    elim (nat_lt 0 (length cut.current)) as (λ t. (if t then ended_now cut else cut).ended ≡ cut.ended ++ (if t then cut.current ∷ [] else [])) [
-      | true ↦ refl
-      | false ↦ sym (append-nil cut.ended)
-    ]
+blocks-last options entries = refl
 
 -- a full block is ended to make room, and one with an entry at the end
 pub room-full : (options : BbtOptions) (cut : Blocks) → is_full options cut.current ≡ true → with_room options cut ≡ ended_now cut
 room-full options cut full = rw full refl
 
+pub room-short : (options : BbtOptions) (cut : Blocks) → is_full options cut.current ≡ false → with_room options cut ≡ cut
+room-short options cut short = rw short refl
+
 pub last-some : (cut : Blocks) → 0 < length cut.current → ended_last cut ≡ ended_now cut
 last-some cut some = rw (lt-ltb 0 (length cut.current) some) refl
+
+last-nothing : (ended : List (List Entry)) (current : List Entry) → length current ≡ 0
+    → ended_last (record { ended = ended; current = current }) ≡ record { ended = ended; current = current }
+last-nothing ended [] none = ap all_ended (append-nil ended)
+last-nothing ended (e ∷ rest) none = absurd (omega arith)
+
+pub last-none : (cut : Blocks) → length cut.current ≡ 0 → ended_last cut ≡ cut
+last-none cut none = last-nothing cut.ended cut.current none
+
+-- a list with an entry has begun a block
+added-begun : (options : BbtOptions) (cut : Blocks) (e : Entry) → IsBegun (add_entry options cut e)
+added-begun options cut e =
+    elim (is_full options cut.current) as (λ t. IsBegun
+    (if t then record { ended = cut.ended ++ cut.current ∷ []; current = e ∷ [] } else record { ended = cut.ended; current = cut.current ++ e ∷ [] })) [
+      | true ↦ λ none. absurd (omega (arith, ap length none))
+      | false ↦ λ none. absurd (omega (arith, ap length none, length-append cut.current (e ∷ [])))
+    ]
+
+cut_from-begun : (options : BbtOptions) (cut : Blocks) (entries : List Entry) → IsBegun cut → IsBegun (cut_from options cut entries)
+cut_from-begun options cut [] begun = begun
+cut_from-begun options cut (e ∷ rest) begun = cut_from-begun options (add_entry options cut e) rest (added-begun options cut e)
+
+pub cut_of-begun : (options : BbtOptions) (entries : List Entry) → IsBegun (cut_of options entries)
+unfolding cut_of
+cut_of-begun options entries = cut_from-begun options (record { ended = []; current = [] }) entries (λ none. refl)

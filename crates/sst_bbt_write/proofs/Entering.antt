@@ -1,18 +1,20 @@
 -- An entry is put into the data block: the block takes its row, and what the writer then keeps.
-use Rattle.std.proofs.Common.{◌≡◌, ℕ, ◌+◌, ◌^◌, ◌<◌, ◌≤◌, List, [], ◌∷◌, ◌++◌, length, length-append, false, sym, ap, ◌∙◌, subst, arith}
+use Rattle.std.proofs.Common.{◌≡◌, ℕ, ◌+◌, ◌^◌, ◌<◌, ◌≤◌, Option, None, Some, List, [], ◌∷◌, ◌++◌, length, length-append, refl, sym, ap, ◌∙◌, subst, arith}
 use Rattle.std.proofs.lemmas.List.Sums.{sum_by-cons, sum_by_push}
 use Rattle.sst_key.specs.declared.entries.Entry.{Entry}
 use Rattle.sst_key.specs.Entry.{key_of, entry_weight, weight}
 use Rattle.sst_block.specs.declared.row_form.RowForm.{RowForm}
-use Rattle.sst_block.specs.declared.row_form.RowForm.TheVariants.{Entries, Index}
+use Rattle.sst_block.specs.declared.row_form.RowForm.TheVariants.{Entries}
 use Rattle.sst_block.specs.declared.builder.BlockBuilder.{BlockBuilder}
 use Rattle.sst_block.specs.Block.{Row}
 use Rattle.sst_block.specs.Builder.{Holds, CanAdd, row_put}
+use Rattle.sst_index.specs.declared.builder.IndexBuilder.{IndexBuilder}
+use Rattle.sst_index.specs.Index as index
 use Rattle.sst_bbt_spec.specs.Rows.{rows_of}
 use Rattle.sst_bbt_write.specs.declared.bbt_writer.BbtWriter.{BbtWriter}
 use Rattle.sst_bbt_write.specs.Cut.{Blocks, entries_in}
 use Rattle.sst_bbt_write.specs.Keeps.{Keeps, with_entry}
-use Rattle.sst_bbt_write.specs.Written.{Fits, index_rows, key_bytes, value_bytes}
+use Rattle.sst_bbt_write.specs.Written.{Fits, ends_from, index_options, key_bytes, next_key, value_bytes}
 use Rattle.sst_bbt_spec.proofs.RowsOf.{length-key_of}
 use Rattle.sst_bbt_write.proofs.Rows.{weight-append}
 use Rattle.sst_bbt_write.proofs.Added.{data_takes, data-more, last-more, has_room}
@@ -21,16 +23,16 @@ use Rattle.sst_bbt_write.proofs.ListParts.{fits-back}
 use Rattle.sst_bbt_write.proofs.Ending.{of-kept}
 
 -- the block with the entry is such a list
-block-fits : (w : BbtWriter) (cut : Blocks) (entries : List Entry) (bytes : List ℕ) (e : Entry) → Keeps w cut entries bytes → Fits (entries ++ e ∷ []) → Fits (cut.current ++ e ∷ [])
-block-fits w cut entries bytes e kept fits =
-    let now = of-entry entries cut e (of-kept w cut entries bytes kept) in
+block-fits : (w : BbtWriter) (next : Option (List ℕ)) (cut : Blocks) (entries : List Entry) (bytes : List ℕ) (e : Entry) → Keeps w next cut entries bytes → Fits (entries ++ e ∷ []) → Fits (cut.current ++ e ∷ [])
+block-fits w next cut entries bytes e kept fits =
+    let now = of-entry entries cut e (of-kept w next cut entries bytes kept) in
     fits-back (entries_in cut.ended) (cut.current ++ e ∷ []) (subst Fits now.joined fits)
 
 -- the block takes its row
-pub block_takes : (w : BbtWriter) (cut : Blocks) (entries : List Entry) (bytes : List ℕ) (e : Entry) (key value : List ℕ) → Keeps w cut entries bytes
+pub block_takes : (w : BbtWriter) (next : Option (List ℕ)) (cut : Blocks) (entries : List Entry) (bytes : List ℕ) (e : Entry) (key value : List ℕ) → Keeps w next cut entries bytes
     → Fits (entries ++ e ∷ []) → key ≡ key_of e → value ≡ e.value → CanAdd w.block (record { key = key; value = value }) []
-block_takes w cut entries bytes e key value kept fits key_is value_is =
-    data_takes w.block w.options.restart cut.current e key value kept.block (block-fits w cut entries bytes e kept fits) key_is value_is
+block_takes w next cut entries bytes e key value kept fits key_is value_is =
+    data_takes w.block w.options.restart cut.current e key value kept.block (block-fits w next cut entries bytes e kept fits) key_is value_is
 
 -- keys and values take no more than their entries weigh
 keys-le : (entries : List Entry) → key_bytes entries ≤ weight entries
@@ -51,9 +53,9 @@ pub record EntrySpace (w : BbtWriter) (e : Entry) : Type 0 where
   pub values : w.values + length e.value < 2 ^ 60
   pub weighs : w.weight + entry_weight e ≤ 2 ^ 28
 
-pub entry-space : (w : BbtWriter) (cut : Blocks) (entries : List Entry) (bytes : List ℕ) (e : Entry) → Keeps w cut entries bytes
+pub entry-space : (w : BbtWriter) (next : Option (List ℕ)) (cut : Blocks) (entries : List Entry) (bytes : List ℕ) (e : Entry) → Keeps w next cut entries bytes
     → Fits (entries ++ e ∷ []) → EntrySpace w e
-entry-space w cut entries bytes e kept fits =
+entry-space w next cut entries bytes e kept fits =
     let room = has_room entries e fits in
     let count = room.count in
     let weighs = room.weighs in
@@ -71,16 +73,21 @@ entry-space w cut entries bytes e kept fits =
       weighs = omega arith;
     }
 
+-- the first key behind the ended blocks stays
+next-entered : (current : List Entry) (e : Entry) → next_key (current ∷ []) (Some (key_of e)) ≡ next_key ((current ++ e ∷ []) ∷ []) None
+next-entered [] e = refl
+next-entered (first ∷ rest) e = refl
+
 -- and the writer then keeps the list with the entry
 pub entered_keeps : (w : BbtWriter) (cut : Blocks) (entries : List Entry) (bytes : List ℕ) (e : Entry) (key : List ℕ) (new : BbtWriter)
-    → Keeps w cut entries bytes → Fits (entries ++ e ∷ []) → key ≡ key_of e
+    → Keeps w (Some (key_of e)) cut entries bytes → Fits (entries ++ e ∷ []) → key ≡ key_of e
     → ((form : RowForm) (interval : ℕ) (rows : List Row) → Holds w.block form interval rows → Holds new.block form interval (rows ++ row_put form interval rows (record { key = key; value = e.value }) [] ∷ []))
     → (new.failed ≡ w.failed) → (new.options ≡ w.options) → (new.rows ≡ w.rows + 1) → (new.index ≡ w.index) → (new.blocks ≡ w.blocks) → (new.data_size ≡ w.data_size)
     → (new.last.items ≡ key_of e) → (new.count ≡ w.count + 1) → (new.keys ≡ w.keys + length (key_of e)) → (new.values ≡ w.values + length e.value)
     → (new.weight ≡ w.weight + entry_weight e)
-    → Keeps new (with_entry cut e) (entries ++ e ∷ []) bytes
-entered_keeps w cut entries bytes e key new kept fits key_is added failed same rows index blocks data_size last count keys values weighs =
-    let now = of-entry entries cut e (of-kept w cut entries bytes kept) in
+    → Keeps new None (with_entry cut e) (entries ++ e ∷ []) bytes
+entered_keeps w cut entries bytes e key new kept fits key_is added failed same rows index_is blocks data_size last count keys values weighs =
+    let now = of-entry entries cut e (of-kept w (Some (key_of e)) cut entries bytes kept) in
     let w1 = kept.rows in
     let w2 = kept.count in
     let w3 = kept.keys in
@@ -93,7 +100,8 @@ entered_keeps w cut entries bytes e key new kept fits key_is added failed same r
       filled = now.filled;
       block = rw same (data-more new.block w.options.restart cut.current e key key_is (added Entries w.options.restart (rows_of cut.current) kept.block));
       rows = omega (arith, length-append cut.current (e ∷ []));
-      index = rw same (subst (λ (b : BlockBuilder). Holds b (Index false false) w.options.index_restart (index_rows w.options 0 cut.ended)) (sym index) kept.index);
+      index = rw same (subst (λ (k : Option (List ℕ)). index.Holds new.index (index_options w.options) (ends_from w.options 0 cut.ended k)) (next-entered cut.current e)
+          (subst (λ (b : IndexBuilder). index.Holds b (index_options w.options) (ends_from w.options 0 cut.ended (next_key (cut.current ∷ []) (Some (key_of e))))) (sym index_is) kept.index));
       blocks = blocks ∙ kept.blocks;
       data_size = data_size ∙ kept.data_size;
       appended = rw same kept.appended;

@@ -1,5 +1,5 @@
 -- What a block-based writer keeps between its calls.
-use Rattle.std.specs.Prelude.{◌≡◌, ◌⊎◌, ℕ, true, List}
+use Rattle.std.specs.Prelude.{◌≡◌, ◌⊎◌, ℕ, true, List, None}
 use Rattle.sst_key.specs.declared.entries.Entry.{Entry}
 use Rattle.sst_bbt_write.specs.Cut.{cut_of}
 use Rattle.sst_bbt_write.specs.Keeps.{Keeps}
@@ -16,7 +16,7 @@ HasFailed w = w.failed ≡ true
 -- Pinned by: add.ok, finish.written
 pub record After (w : BbtWriter) (options : BbtOptions) (entries : List Entry) (bytes : List ℕ) : Type 0 where
   pub chosen : w.options ≡ options
-  pub keeps : Keeps w (cut_of options entries) entries bytes
+  pub keeps : Keeps w None (cut_of options entries) entries bytes
 
 -- the writer has failed, or some list was added to it
 -- Pinned by: finish.written, a_list_as_heavy_as_it_may_be

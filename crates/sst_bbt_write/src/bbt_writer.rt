@@ -3,18 +3,19 @@
 //!
 //! What it keeps after a list is `After` (specs/After.antt): the data block that isn't ended, the index of those that are,
 //! the last key, and what counts towards the limits and the properties.
-ghost use Rattle.std.specs.Prelude.{◌≡◌, ℕ, ◌<◌, ◌≤◌, ◌^◌, false, List, [], ◌∷◌, ◌++◌, length, Some, None, Err, IsErr, IfOk, OnOk, OnErr};
+ghost use Rattle.std.specs.Prelude.{◌≡◌, ℕ, ◌<◌, ◌≤◌, ◌^◌, List, [], ◌∷◌, ◌++◌, length, Some, None, Err, IsErr, IfOk, OnOk, OnErr};
+ghost use Rattle.std.specs.Option.{option_map};
 ghost use Rattle.sst_key.specs.Entry.{entry_of, key_of};
 ghost use Rattle.sst_key.specs.Entry.{weight as weight_of};
 ghost use Rattle.sst_key.specs.declared.entries.Entry.{Entry};
 ghost use Rattle.sst_block.specs.Builder.{Holds, last_key};
-ghost use Rattle.sst_block.specs.declared.row_form.RowForm.TheVariants.{Entries, Index};
+ghost use Rattle.sst_block.specs.declared.row_form.RowForm.TheVariants.{Entries};
 ghost use Rattle.sst_bbt_write.specs.After.{After, HasFailed, IsInUse};
 ghost use Rattle.sst_bbt_write.specs.Reasons.{reason, is_after};
 ghost use Rattle.sst_bbt_spec.specs.Rows.{rows_of};
 ghost use Rattle.sst_bbt_write.specs.Cut.{Blocks, is_full};
 ghost use Rattle.sst_key.specs.Limits.{weight_limit};
-ghost use Rattle.sst_bbt_write.specs.Keeps.{Keeps, KeepsSome, ended_now, ended_last, with_room, with_entry};
+ghost use Rattle.sst_bbt_write.specs.Keeps.{Awaits, Ends, Keeps, KeepsSome, all_ended, ended_now, ended_last, with_room, with_entry};
 ghost use Rattle.sst_bbt_write.specs.Written.{Fits, MayBeChosen, Written, end_part, sizes_of};
 ghost use Rattle.sst_bbt_write.specs.declared.bbt_options.BbtOptions.{BbtOptions};
 
@@ -23,8 +24,9 @@ use crate::properties::Sizes;
 use crate::table_parts::{TRAILER_LENGTH, put_end};
 use sst_block::{BlockBuilder, RowForm};
 use sst_device::put_frame;
+use sst_index::IndexBuilder;
 use sst_key::{EntryView, WriteFault, cmp_internal, pack};
-use sst_num::{Handle, Memory, Refused, put_handle};
+use sst_num::{Handle, Memory, Refused};
 use std::alloc::Global;
 use std::mem;
 
@@ -56,7 +58,7 @@ pub struct BbtWriter {
     /// How many entries it has.
     rows: u64,
     /// The index of the data blocks that are ended.
-    index: BlockBuilder,
+    index: IndexBuilder,
     /// How many these are.
     blocks: u64,
     /// How many bytes they take with their trailers.
@@ -85,18 +87,6 @@ fn data_block(alloc: Global, options: &BbtOptions) -> Result<BlockBuilder, Memor
     BlockBuilder::new(alloc, RowForm::Entries, options.restart, false)
 }
 
-/// An index with no row.
-fn index_block(alloc: Global, options: &BbtOptions) -> Result<BlockBuilder, Memory>
-    requires { MayBeChosen options.now }
-    ensures { IfOk result (λ b. Holds b (Index false false) options.now.index_restart []) }
-{
-    let form = RowForm::Index {
-        user_key: false,
-        delta: false,
-    };
-    BlockBuilder::new(alloc, form, options.index_restart, false)
-}
-
 impl BbtWriter {
     /// A writer of no entry.
     pub fn new(alloc: Global, options: BbtOptions) -> Result<BbtWriter, Memory>
@@ -108,7 +98,7 @@ impl BbtWriter {
             options,
             block: data_block(alloc, &options)?,
             rows: 0,
-            index: index_block(alloc, &options)?,
+            index: IndexBuilder::new(alloc, options.version, options.index_restart, options.parts)?,
             blocks: 0,
             data_size: 0,
             last: Vec::new(alloc),
@@ -189,28 +179,30 @@ impl BbtWriter {
 
     /// Appends what stands behind the data blocks, all of which are ended, and answers how many entries there are.
     fn put_rest(self, out: &mut Vec<u8>) -> Result<u64, Memory>
-        requires { KeepsSome self }
-        ensures written { IfOk result (λ count. (cut : Blocks) (entries : List Entry) (bytes : List ℕ) → Keeps self cut entries bytes
-            → (out.new.items ≡ out.old.items ++ end_part self.options cut.ended (sizes_of self.options cut.ended entries)) × (count ≡ length entries)) }
+        requires { (blocks : List (List Entry)) × (entries : List Entry) × (bytes : List ℕ) × Keeps self None (all_ended blocks) entries bytes }
+        ensures written { IfOk result (λ count. (blocks : List (List Entry)) (entries : List Entry) (bytes : List ℕ) → Keeps self None (all_ended blocks) entries bytes
+            → (out.new.items ≡ out.old.items ++ end_part self.options blocks (sizes_of self.options blocks entries)) × (count ≡ length entries)) }
         ensures err { OnErr result ((rest : List ℕ) × (out.new.items ≡ out.old.items ++ rest)) }
     {
-        let index = self.index.finish()?;
+        let flags = self.index.flags();
+        let start = out.len();
+        let index = self.index.finish(self.data_size, out)?;
         let sizes = Sizes {
             data_size: self.data_size,
-            index_size: index.len() as u64 + TRAILER_LENGTH,
+            index_size: (out.len() - start) as u64,
             blocks: self.blocks,
             entries: self.count,
             keys: self.keys,
             values: self.values,
         };
-        put_end(self.alloc, out, index.as_slice(), sizes)?;
+        put_end(self.alloc, out, self.options, flags, index, sizes)?;
         Ok(self.count)
     }
 
     /// The data block has an entry, and so many bytes that it is ended before the next one.
     fn is_full(&self) -> bool
         requires { KeepsSome self.now }
-        ensures { (cut : Blocks) (entries : List Entry) (bytes : List ℕ) → Keeps self.now cut entries bytes
+        ensures { (cut : Blocks) (entries : List Entry) (bytes : List ℕ) → Keeps self.now None cut entries bytes
             → result ≡ is_full self.now.options cut.current }
     {
         if self.rows == 0 {
@@ -219,60 +211,65 @@ impl BbtWriter {
         self.block.size_now() >= self.options.block_size as usize
     }
 
-    /// Ends the data block, if it is full.
+    /// Ends the data block before the entry at hand, if it is full.
     ///
     /// RocksDB: `FlushBlockBySizePolicy::Update` in table/block_based/flush_block_policy.cc.
     fn make_room(&mut self, out: &mut Vec<u8>) -> Result<(), Memory>
-        requires { KeepsSome self.old }
-        ensures ok { OnOk result ((cut : Blocks) (entries : List Entry) (bytes : List ℕ) → Keeps self.old cut entries bytes
+        requires { (e : Entry) × (cut : Blocks) × (entries : List Entry) × (bytes : List ℕ) × Awaits self.old e cut entries bytes }
+        ensures ok { OnOk result ((e : Entry) (cut : Blocks) (entries : List Entry) (bytes : List ℕ) → Awaits self.old e cut entries bytes
             → (piece : List ℕ) × (out.new.items ≡ out.old.items ++ piece)
-            × Keeps self.new (with_room self.old.options cut) entries (bytes ++ piece)) }
+            × Keeps self.new (Some (key_of e)) (with_room self.old.options cut) entries (bytes ++ piece)) }
         ensures grows { (rest : List ℕ) × (out.new.items ≡ out.old.items ++ rest) }
         ensures same { (self.new.options ≡ self.old.options) × (self.new.key ≡ self.old.key) }
     {
         match self.is_full() {
-            true => self.end_block(out),
+            true => {
+                let key = mem::replace(&mut self.key, Vec::new(self.alloc));
+                let ended = self.end_block(Some(&key), out);
+                self.key = key;
+                ended
+            }
             false => Ok(()),
         }
     }
 
-    /// Ends the data block, if it has an entry.
+    /// Ends the data block, if it has an entry. No entry follows.
     fn end_last(&mut self, out: &mut Vec<u8>) -> Result<(), Memory>
         requires { KeepsSome self.old }
-        ensures ok { OnOk result ((cut : Blocks) (entries : List Entry) (bytes : List ℕ) → Keeps self.old cut entries bytes
-            → (piece : List ℕ) × (out.new.items ≡ out.old.items ++ piece) × Keeps self.new (ended_last cut) entries (bytes ++ piece)) }
+        ensures ok { OnOk result ((cut : Blocks) (entries : List Entry) (bytes : List ℕ) → Keeps self.old None cut entries bytes
+            → (piece : List ℕ) × (out.new.items ≡ out.old.items ++ piece) × Keeps self.new None (ended_last cut) entries (bytes ++ piece)) }
         ensures grows { (rest : List ℕ) × (out.new.items ≡ out.old.items ++ rest) }
         ensures same { self.new.options ≡ self.old.options }
     {
         if self.rows == 0 {
             return Ok(());
         }
-        self.end_block(out)
+        self.end_block(None, out)
     }
 
-    /// Ends the data block, which has an entry: appends it, and adds its row to the index. Its separator is its last key.
+    /// Ends the data block, which has an entry: appends it, and adds it to the index. `next` is the key of the entry behind it,
+    /// if there is one.
     ///
     /// RocksDB: `BlockBasedTableBuilder::Flush` in table/block_based/block_based_table_builder.cc, and
-    /// `ShortenedIndexBuilder::AddIndexEntry` in table/block_based/index_builder.h, which shortens separators.
-    fn end_block(&mut self, out: &mut Vec<u8>) -> Result<(), Memory>
-        requires writer { KeepsSome self.old }
-        requires some { 0 < self.old.rows }
-        ensures ok { OnOk result ((cut : Blocks) (entries : List Entry) (bytes : List ℕ) → Keeps self.old cut entries bytes
-            → (piece : List ℕ) × (out.new.items ≡ out.old.items ++ piece) × Keeps self.new (ended_now cut) entries (bytes ++ piece)) }
+    /// `IndexBuilder::AddIndexEntry` in table/block_based/index_builder.h.
+    fn end_block(&mut self, next: Option<&[u8]>, out: &mut Vec<u8>) -> Result<(), Memory>
+        requires { (coming : List Entry) × (cut : Blocks) × (entries : List Entry) × (bytes : List ℕ) × Ends self.old (option_map (λ b. b.now) next) coming cut entries bytes }
+        ensures ok { OnOk result ((coming : List Entry) (cut : Blocks) (entries : List Entry) (bytes : List ℕ)
+            → Ends self.old (option_map (λ b. b.now) next.entry) coming cut entries bytes
+            → (piece : List ℕ) × (out.new.items ≡ out.old.items ++ piece)
+            × Keeps self.new (option_map (λ b. b.now) next.entry) (ended_now cut) entries (bytes ++ piece)) }
         ensures grows { (rest : List ℕ) × (out.new.items ≡ out.old.items ++ rest) }
         ensures same { (self.new.options ≡ self.old.options) × (self.new.key ≡ self.old.key) }
     {
-        let next = data_block(self.alloc, &self.options)?;
-        let block = mem::replace(&mut self.block, next).finish()?;
+        let empty = data_block(self.alloc, &self.options)?;
+        let block = mem::replace(&mut self.block, empty).finish()?;
         let size = block.len() as u64;
         put_frame(out, block.as_slice())?;
-        let mut value = Vec::new(self.alloc);
         let handle = Handle {
             offset: self.data_size,
             size,
         };
-        put_handle(&mut value, handle)?;
-        self.index.add(&self.last, &value, &[])?;
+        self.index.add(&self.last, next, handle)?;
         self.rows = 0;
         self.blocks += 1;
         self.data_size += size + TRAILER_LENGTH;
@@ -309,11 +306,11 @@ impl BbtWriter {
     /// Adds the row of an entry that isn't refused, whose internal key was made, to a data block that isn't full.
     fn push(&mut self, e: &EntryView<'_>) -> Result<(), Memory>
         requires key { self.old.key.items ≡ key_of (entry_of e.now) }
-        requires writer { (cut : Blocks) × (entries : List Entry) × (bytes : List ℕ) × Keeps self.old cut entries bytes
+        requires writer { (cut : Blocks) × (entries : List Entry) × (bytes : List ℕ) × Keeps self.old (Some (key_of (entry_of e.now))) cut entries bytes
             × Fits (entries ++ entry_of e.now ∷ []) }
-        ensures ok { OnOk result ((cut : Blocks) (entries : List Entry) (bytes : List ℕ) → Keeps self.old cut entries bytes
+        ensures ok { OnOk result ((cut : Blocks) (entries : List Entry) (bytes : List ℕ) → Keeps self.old (Some (key_of (entry_of e.now))) cut entries bytes
             → Fits (entries ++ entry_of e.now ∷ [])
-            → Keeps self.new (with_entry cut (entry_of e.now)) (entries ++ entry_of e.now ∷ []) bytes) }
+            → Keeps self.new None (with_entry cut (entry_of e.now)) (entries ++ entry_of e.now ∷ []) bytes) }
         ensures options { self.new.options ≡ self.old.options }
     {
         self.block.add(&self.key, e.value, &[])?;

@@ -3,13 +3,15 @@ ghost use Rattle.std.specs.Prelude.{◌≡◌};
 ghost use Rattle.sst_meta.specs.MetaRows.{rows_given};
 ghost use Rattle.sst_bbt_write.specs.Written as written;
 
+use crate::bbt_options::BbtOptions;
+use sst_index::IndexFlags;
 use sst_meta::{MetaRow, MetaValue, names};
 
 /// The type of an index that is searched by halving. RocksDB: `kBinarySearch` in include/rocksdb/table.h.
 const BINARY_SEARCH: u32 = 0;
 
-/// The version of the format that is written.
-pub const VERSION: u32 = 2;
+/// The type of an index that has parts. RocksDB: `kTwoLevelIndexSearch` in include/rocksdb/table.h.
+const TWO_LEVELS: u32 = 2;
 
 /// How many properties a file has.
 const COUNT: usize = 12;
@@ -21,7 +23,7 @@ const COUNT: usize = 12;
 pub struct Sizes {
     /// The bytes of the data blocks with their trailers.
     pub data_size: u64,
-    /// The bytes of the index block with its trailer.
+    /// The bytes of the index blocks with their trailers.
     pub index_size: u64,
     /// How many data blocks there are.
     pub blocks: u64,
@@ -33,17 +35,41 @@ pub struct Sizes {
     pub values: u64,
 }
 
-/// The properties of a file with these numbers, in bytewise order of their names.
+/// The type of an index whose parts have so many rows, or which is whole where these are 0.
+fn index_type(parts: u32) -> u32
+    ensures { result ≡ written.index_type parts }
+{
+    match parts {
+        0 => BINARY_SEARCH,
+        _ => TWO_LEVELS,
+    }
+}
+
+/// A flag as a number.
+fn flag_number(flag: bool) -> u64
+    ensures { result ≡ written.flag_number flag }
+{
+    match flag {
+        true => 1,
+        false => 0,
+    }
+}
+
+/// The properties of a file with these options, flags of its index and numbers, in bytewise order of their names.
 ///
 /// RocksDB: `BlockBasedTableBuilder::WritePropertiesBlock` in table/block_based/block_based_table_builder.cc, and
 /// `PropertyBlockBuilder::AddTableProperty` in table/meta_blocks.cc.
-pub fn properties_of(sizes: Sizes) -> [MetaRow<'static>; COUNT]
-    ensures { rows_given result ≡ written.properties sizes }
+pub fn properties_of(
+    options: BbtOptions,
+    flags: IndexFlags,
+    sizes: Sizes,
+) -> [MetaRow<'static>; COUNT]
+    ensures { rows_given result ≡ written.properties options flags sizes }
 {
     [
         MetaRow {
             name: names::INDEX_TYPE,
-            value: MetaValue::Fixed32(BINARY_SEARCH),
+            value: MetaValue::Fixed32(index_type(options.parts)),
         },
         MetaRow {
             name: names::COMPARATOR,
@@ -59,11 +85,11 @@ pub fn properties_of(sizes: Sizes) -> [MetaRow<'static>; COUNT]
         },
         MetaRow {
             name: names::FORMAT_VERSION,
-            value: MetaValue::Varint(VERSION as u64),
+            value: MetaValue::Varint(options.version as u64),
         },
         MetaRow {
             name: names::INDEX_KEY_IS_USER_KEY,
-            value: MetaValue::Varint(0),
+            value: MetaValue::Varint(flag_number(flags.user_key)),
         },
         MetaRow {
             name: names::INDEX_SIZE,
@@ -71,7 +97,7 @@ pub fn properties_of(sizes: Sizes) -> [MetaRow<'static>; COUNT]
         },
         MetaRow {
             name: names::INDEX_VALUE_IS_DELTA_ENCODED,
-            value: MetaValue::Varint(0),
+            value: MetaValue::Varint(flag_number(flags.delta)),
         },
         MetaRow {
             name: names::NUM_DATA_BLOCKS,

@@ -15,7 +15,7 @@ use Rattle.sst_block.specs.Chosen.{chosen, restarts_of, block_of}
 
 -- the key of the last row; `before` is the key before the rows
 -- Own.
--- Pinned by: first_fault_is_first, a_file_that_stands_is_separated
+-- Pinned by: first_fault_is_first, what_a_file_stands_for_is_ordered
 abbrev pub last_key : List ℕ → List Row → List ℕ
 last_key before [] = before
 last_key before (row ∷ rows) = last_key row.key rows

@@ -9,7 +9,8 @@ use Rattle.sst_bbt_spec.specs.BlockBased.{BlockBased, Opens}
 use Rattle.sst_bbt_spec.specs.Parts.{Part}
 use Rattle.sst_bbt_read.specs.OpeningFaults.{FailsToOpen}
 use Rattle.sst_bbt_read.specs.declared.bbt_fault.BbtFault.{BbtFault}
-use Rattle.sst_bbt_read.proofs.OpeningDecided.{opens-apart_fails, fails-shown}
+use Rattle.sst_bbt_read.proofs.FaultsShown.{fails-shown}
+use Rattle.sst_bbt_read.proofs.OpeningDecided.{opens-apart_fails}
 use Rattle.sst_cli.specs.Behaviour.{Told, World, IsFault, IsWhole, Ends}
 use Rattle.sst_cli.specs.CallsCommand.{Answered, AnsweredByWay, IsDamaged, FoundCalls, Refused, Read, AreFoundCalls, calls_command, calls_outcome}
 use Rattle.sst_cli.specs.OpenFile.{OpenFile, Absent, Damaged, Opened, IsOpenFile}

@@ -6,7 +6,8 @@ use Rattle.sst_bbt_spec.specs.BlockBased.{Opens}
 use Rattle.sst_bbt_spec.specs.Parts.{Part}
 use Rattle.sst_bbt_read.specs.OpeningFaults.{FailsToOpen}
 use Rattle.sst_bbt_read.specs.declared.bbt_fault.BbtFault.{BbtFault}
-use Rattle.sst_bbt_read.proofs.OpeningDecided.{opens-apart_fails, fails-shown}
+use Rattle.sst_bbt_read.proofs.FaultsShown.{fails-shown}
+use Rattle.sst_bbt_read.proofs.OpeningDecided.{opens-apart_fails}
 use Rattle.sst_cli.specs.Behaviour.{Told, World, IsFault, IsWhole, Ends}
 use Rattle.sst_cli.specs.OpenFile.{OpenFile, Absent, Damaged, Opened, IsOpenFile, HasShown, TellsDamage, done_with, file_outcome, prints_of_file}
 use Rattle.sst_cli.specs.declared.status.Status.{Status}

@@ -21,6 +21,14 @@ say-step f words i word said now at is =
     ap (λ (l : List (List ℕ)). say_all l said) (drop-at (map f words) i (f word) here)
     ∙ ap (option_and_then (λ next. say_all (drop (i + 1) (map f words)) next)) is
 
+-- and nothing is said where one word can't be
+pub say-stop : {A : Type 0} (f : A → List ℕ) (words : List A) (i : ℕ) (word : A) (said : Said) → slice_get words i ≡ Some word → say (f word) said ≡ None
+    → say_all (drop i (map f words)) said ≡ None
+say-stop f words i word said at is =
+    let here : slice_get (map f words) i ≡ Some (f word) = slice_get-map f words i ∙ ap (option_map f) at in
+    ap (λ (l : List (List ℕ)). say_all l said) (drop-at (map f words) i (f word) here)
+    ∙ ap (option_and_then (λ next. say_all (drop (i + 1) (map f words)) next)) is
+
 -- ---- within the limits
 
 -- a number that is said is within these limits

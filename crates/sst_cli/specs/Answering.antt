@@ -39,7 +39,7 @@ replied (Err stop) = Err stop
 abbrev pub reply_text : Reply → Option Entry → Call → List ℕ
 reply_text said shown call = reply_line said shown call ++ 10 ∷ []
 
--- both cursors stand somewhere on the blocks
+-- both cursors stand somewhere on the parts
 -- Pinned by: put_answer.both
 abbrev pub StandBoth : OpenReader → Cursor → Cursor → List Part → Type 0
 StandBoth r c d parts = ((place : Option ℕ) × StandsOn r c parts place) × ((place : Option ℕ) × StandsOn r d parts place)

@@ -31,7 +31,7 @@ pub record Answered (result : Status) (entries : List Entry) (calls : List Call)
   pub read : left ≡ Some []
   pub printed : now ≡ append_known before (answers_text entries calls)
 
--- the same on a file with these blocks: the answers by their way are printed
+-- the same on a file with these parts: the answers by their way are printed
 -- Pinned by: what_calls_come_to.answered, what_calls_come_to.done
 pub record AnsweredByWay (result : Status) (parts : List Part) (calls : List Call) (old new : Option Files) (left before now : Option (List ℕ)) : Type 0 where
   pub done : result ≡ Done
@@ -50,7 +50,7 @@ pub record IsDamaged (result : Status) (file : List ℕ) (left before now : Opti
   pub shown : IsBytes (last_bytes later_length file) → Shows file fault
   pub printed : now ≡ append_known before (fault_text fault)
 
--- what is answered of data blocks: a line for each call, by the way of the blocks
+-- what is answered of parts: a line for each call, by their way
 -- Pinned by: run.headline_calls, what_calls_come_to.answered
 abbrev pub answers_of : List Call → List Part → Outcome
 answers_of calls parts = done_with (way_text parts calls)

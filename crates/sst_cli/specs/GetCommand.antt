@@ -28,7 +28,7 @@ entry_at entries place = option_and_then (λ i. slice_get entries i) place
 abbrev pub got_text : List Entry → Target → List ℕ
 got_text entries target = found_text (entry_at entries (get_of entries target.user target.seq))
 
--- the text of a Get by the way of data blocks
+-- the text of a Get by the way of the parts
 -- Pinned by: what_a_get_comes_to.got, questions
 abbrev pub way_got_text : Target → List Part → List ℕ
 way_got_text target parts = found_text (entry_at (stored_in parts) (get_in_parts None parts target.user target.seq))

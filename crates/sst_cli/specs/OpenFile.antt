@@ -17,14 +17,14 @@ use Rattle.sst_cli.specs.declared.status.Status.{Status}
 use Rattle.sst_cli.specs.declared.status.Status.TheVariants.{Done, File, Device}
 
 -- what a file may be found as: the folder tells that it isn't there; this fault is the first thing that is wrong with
--- it; it opens to these data blocks
+-- it; it opens to these parts of its index
 -- Pinned by: run.ends
 pub data OpenFile : Type 0 where
   Absent : OpenFile
   Damaged : BbtFault → OpenFile
   Opened : List Part → OpenFile
 
--- Where the folder tells its files, the named one is found so. The sequence numbers of blocks to which a file opens are in
+-- Where the folder tells its files, the named one is found so. The sequence numbers of what a file opens to are in
 -- range, be the files told or not.
 -- Pinned by: what_calls_come_to.answered, what_calls_come_to.damaged, what_calls_come_to.absent
 abbrev pub IsOpenFile : Option Files → List ℕ → OpenFile → Type 0
@@ -42,7 +42,7 @@ done_with text = record { status = Done; text = text }
 abbrev pub cut_by : List ℕ → BbtFault → Outcome
 cut_by text fault = record { status = File; text = text ++ fault_text fault }
 
--- what is answered of a file, by what is answered of the data blocks to which it opens. Of one that isn't there nothing is
+-- what is answered of a file, by what is answered of the parts to which it opens. Of one that isn't there nothing is
 -- printed.
 -- Pinned by: what_calls_come_to.damaged, what_calls_come_to.absent
 abbrev pub file_outcome : (List Part → Outcome) → OpenFile → Outcome
@@ -50,7 +50,7 @@ file_outcome answer Absent = record { status = Device; text = [] }
 file_outcome answer (Damaged fault) = cut_by [] fault
 file_outcome answer (Opened parts) = answer parts
 
--- the command that opens the named file and answers so of its data blocks; it changes nothing and takes no input
+-- the command that opens the named file and answers so of its parts; it changes nothing and takes no input
 -- Pinned by: run.ends
 abbrev pub on_file : List ℕ → (List Part → Outcome) → Behaviour
 on_file name answer =
@@ -64,7 +64,7 @@ on_file name answer =
       SparesInput = λ told status. Unit {0};
     }
 
--- the command that opens the named file and prints this text of its data blocks
+-- the command that opens the named file and prints this text of its parts
 -- Pinned by: what_reading_a_file_comes_to.printed
 abbrev pub prints_of_file : List ℕ → (List Part → List ℕ) → Behaviour
 prints_of_file name text = on_file name (λ parts. done_with (text parts))

@@ -32,12 +32,12 @@ answers_from entries position calls = lines_of entries calls (replies_from Block
 abbrev pub answers_text : List Entry → List Call → List ℕ
 answers_text entries calls = answers_from entries None calls
 
--- the text of the answers by the way of the blocks, from a position on
+-- the text of the answers by the way of the parts, from a position on
 -- Pinned by: what_calls_come_to.answered, entries_after_separators
 unfoldable pub way_from : List Part → Option ℕ → List Call → List ℕ
 way_from parts position calls = lines_of (stored_in parts) calls (replies_in_parts_from None parts position calls)
 
--- the text of the answers of a block-based table with these blocks
+-- the text of the answers of a block-based table with these parts
 -- Pinned by: what_calls_come_to.answered, entries_after_separators
 abbrev pub way_text : List Part → List Call → List ℕ
 way_text parts calls = way_from parts None calls

@@ -48,7 +48,7 @@ abbrev pub list_text : Option ℕ → List Entry → List ℕ
 list_text None entries = lines_text entries
 list_text (Some snapshot) entries = lines_text (visible entries snapshot)
 
--- the text of a scan over data blocks
+-- the text of a scan over parts
 -- Pinned by: what_a_scan_comes_to.scanned, questions
 abbrev pub scan_text : Option ℕ → List Part → List ℕ
 scan_text snapshot parts = lines_text (scanned_after snapshot None (stored_in parts))

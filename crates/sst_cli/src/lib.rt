@@ -36,7 +36,7 @@
 //!                                     the lines of the entries
 //! ```
 //!
-//! - Words: there are four commands: `write block OUT`, perhaps with the option `block=N`; `calls FILE`; `get FILE USER SEQ`;
+//! - Words: there are four commands: `write block OUT`, perhaps with options; `calls FILE`; `get FILE USER SEQ`;
 //!   and `scan FILE`, perhaps with a SEQ. All others are Usage. USER and SEQ are as in a call line.
 //! - Lines: an input is a list of lines, each ended by LF. An entry line is `USER SEQ KIND VALUE`: the user key and the
 //!   value in hex digits or `-`, a decimal sequence number, and one of the letters D, P, M and S. A call line is one of

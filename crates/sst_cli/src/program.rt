@@ -37,13 +37,13 @@ const USAGE: &str = "usage\n";
 ///
 /// There are four commands, and neither OUT nor FILE is empty:
 ///
-/// - `write block OUT`, perhaps with the option `block=N`: the input is a list of entry lines; OUT is begun, and holds the
-///   block-based file of the list at the end. A data block of N bytes or more, 4096 without the option, is ended before
-///   the next entry is added. No line after the first that is refused is looked at.
+/// - `write block OUT`, perhaps with options, `version=N`, `block=N`, `restart=N`, `index-restart=N` and `parts=N`: the input is a
+///   list of entry lines; OUT is begun, and holds the block-based file of the list at the end, as the options say
+///   (docs/USAGE.md). No line after the first that is refused is looked at.
 /// - `calls FILE`: the input is a list of call lines; each is answered from the list that FILE stands for, in order, as
 ///   from one position. The whole input is read and checked before FILE is opened. No file changes. Where the
 ///   separators in the index of FILE don't separate its data blocks, FILE stands for no list; then Get, Seek and
-///   SeekForPrev go by the index, and may miss entries that First and Next show (`way_answer`, sst_bbt_spec).
+///   SeekForPrev go by the index, and may miss entries that First and Next show (`answer_in_parts`, sst_bbt_spec).
 /// - `get FILE USER SEQ`: one Get is answered from the list that FILE stands for, of a user key and a snapshot as a call line
 ///   has them. The input isn't touched, and no file changes.
 ///
@@ -71,7 +71,7 @@ const USAGE: &str = "usage\n";
 /// `heavy`, a list of more than 2^28, where each entry counts its key, its value and 64.
 ///
 /// FAULT is the first thing that is wrong with FILE, in this order: its length, its footer, the metaindex, the properties,
-/// a form that isn't read yet, the index, the data blocks in the order of the index. docs/USAGE.md lists them.
+/// a form that isn't read yet, the top block of the index, each part of it with its data blocks. docs/USAGE.md lists them.
 ///
 /// The words, the texts and the limits are this project's own.
 pub fn run<F: Folder, I: Intake, O: Sink>(

@@ -123,7 +123,7 @@ pub fn what_a_write_comes_to()
 /// What a `calls` comes to.
 ///
 /// `answered_as_list`: on a file that stands for a list each text that says calls, in whatever spelling, is answered as the
-/// list answers. `answered`: on a file that opens, whatever its separators, by the way of its blocks. `damaged`: of a file that
+/// list answers. `answered`: on a file that opens, whatever its separators, by the way of its parts. `damaged`: of a file that
 /// doesn't open the first thing that is wrong is printed, and the file shows it. `refused`, `near`: of an input that is
 /// refused, whatever the file, the whole text is printed, and at most a piece past the refused line is taken. `absent`,
 /// `prints_nothing`: of a file that isn't there, after the refusals of the input, nothing is printed. `done`, `done_only`,
@@ -178,7 +178,7 @@ pub fn what_calls_come_to()
         → (status ≡ ends_with.Done) ⊎ ((status ≡ ends_with.Input) ⊎ ((status ≡ ends_with.File) ⊎ IsFault status)) }
 {}
 
-/// What a command comes to that opens its file and prints a text of its data blocks.
+/// What a command comes to that opens its file and prints a text of its parts.
 ///
 /// `printed`: of a file that opens the whole text is printed, no file changes, and the input isn't touched. `damaged`: of one that
 /// doesn't the first thing that is wrong is printed, and the file shows it. `absent`, `prints_nothing`: of a file that isn't there
@@ -205,7 +205,7 @@ pub fn what_reading_a_file_comes_to()
 /// What a `get` comes to, beside what reading a file comes to.
 ///
 /// `got_as_list`: on a file that stands for a list the line of the entry that the list's Get shows is printed, or `none`. `got`: on
-/// a file that opens, whatever its separators, that of the Get by the way of its blocks. `command`: words that are a `get` come
+/// a file that opens, whatever its separators, that of the Get by the way of its parts. `command`: words that are a `get` come
 /// to this. The texts are this project's own.
 pub fn what_a_get_comes_to()
     ensures got_as_list { (get : GetLine) (before after : World) (status : Status) (file : List ℕ) (entries : List Entry)
@@ -221,7 +221,7 @@ pub fn what_a_get_comes_to()
 /// What a `scan` comes to, beside what reading a file comes to.
 ///
 /// `scanned_as_list`: on a file that stands for a list the lines of the list are printed, or, at a snapshot, those of what is
-/// visible of it. `scanned`: on a file that opens, whatever its separators, those of the entries of its blocks, or of the ones
+/// visible of it. `scanned`: on a file that opens, whatever its separators, those of the entries of its parts, or of the ones
 /// among them that the walk doesn't pass over. `command`: words that are a `scan` come to this. The texts are this project's
 /// own.
 pub fn what_a_scan_comes_to()

@@ -2,7 +2,6 @@
 use Rattle.std.proofs.Common.{◌≡◌, ◌≢◌, ◌⊎◌, inl, inr, ℕ, ◌+◌, ◌-◌, ◌*◌, ◌<◌, ◌≤◌, Bool, true, false, not, ◌&&◌, ◌||◌, nat_le, bytes_eq, Option, None, Some, List, [], ◌∷◌, ◌++◌, length, length-append, length-take, take, drop, map, All, sum_by, refl, sym, ap, ◌∙◌, subst, append_assoc, arith}
 use Rattle.std.specs.List.{flat_map, list_any}
 use Rattle.std.proofs.lemmas.Slice.Eq.{bytes_eq-Decides}
-use Rattle.std.proofs.lemmas.Bool.Decides.{nat_tests}
 use Rattle.std.proofs.lemmas.List.Elements.{All-nil, All-cons, All-head, All-tail}
 use Rattle.std.proofs.lemmas.List.Sums.{sum_by-cons}
 use Rattle.std.proofs.lemmas.Cmp.{nat_list_cmp_total}
@@ -24,6 +23,8 @@ use Rattle.sst_index.specs.Ends.{BlockEnd, AreEnds, IsAfter, begins_with, IsEnd,
 use Rattle.sst_index.specs.Index.{Holds, IsReady, IsKept, Rise, kept_pair, kept_pairs, rows_from, pair_room}
 use Rattle.sst_index.specs.IndexBytes.{IndexOptions, whole_bytes, whole_handle, index_bytes, top_handle, top_separators}
 use Rattle.sst_index.specs.Top.{IsPair}
+use Rattle.sst_index.specs.Behind.{AreBehind}
+use Rattle.sst_index.proofs.Behind.{ends-behind}
 use Rattle.sst_index.proofs.Order.{stored_total, less_up_to, AreNext, rise-from_next}
 use Rattle.sst_index.proofs.Separated.{between-first, between-second, between-user_first, between-user_second, between-length, after-first, after-user_first, after-length}
 
@@ -191,14 +192,11 @@ short-room : (u : Bool) (ends : List BlockEnd) → sum_by end_weight ends ≤ bl
 short-room u [] light = omega arith
 short-room u (e ∷ ends) light = omega (arith, pairs-room u (e ∷ ends), light)
 
--- a version below 4 has whole handles
-pub whole-below : (version : ℕ) → version ≤ 3 → nat_le 4 version ≡ false
-whole-below version most = grind (arith, nat_tests)
-
 -- pairs that may stand in index blocks
 pub record Standing (u : Bool) (pairs : List IndexPair) : Type 0 where
   pub each : All (IsPair u) pairs
   pub rise : Rise u pairs
+  pub behind : AreBehind pairs
   pub room : sum_by pair_room pairs + 8 < block_limit
 
 pub pairs-stand : (version : ℕ) (ends : List BlockEnd) → AreEnds ends → Standing (flags_of version ends).user_key (pairs_of version ends)
@@ -208,6 +206,7 @@ pairs-stand version ends stand =
       each = are_pairs u ends stand.each;
       rise = rise-from_next u (map (pair_of u) ends)
           (are_next u ends stand.each (apart-all u ends (flag-none (nat_le 3 version) (list_any shares_user ends))) stand.followed);
+      behind = ends-behind u ends stand.each stand.followed;
       room = short-room u ends stand.light;
     }
 
@@ -215,17 +214,15 @@ pub ready : (b : IndexBuilder) (o : IndexOptions) (ends : List BlockEnd) → Hol
 ready b o ends holds =
     let u = (flags_of o.version ends).user_key in
     let kept = kept-is b o ends u holds in
-    let stand = holds.stand in
+    let s = subst (Standing u) (sym kept) (pairs-stand o.version ends holds.stand) in
     record {
-      whole = whole-below o.version holds.options.version_most;
       least = omega (arith, holds.interval_is, holds.options.least);
       most = omega (arith, holds.interval_is, holds.options.most);
       kept = are-kept b o ends holds;
-      each = subst (λ (l : List IndexPair). All (IsPair u) l) (sym kept) (are_pairs u ends stand.each);
-      rise = subst (λ (l : List IndexPair). Rise u l) (sym kept)
-          (rise-from_next u (map (pair_of u) ends)
-          (are_next u ends stand.each (apart-all u ends (flag-none (nat_le 3 o.version) (list_any shares_user ends))) stand.followed));
-      room = subst (λ (l : List IndexPair). sum_by pair_room l + 8 < block_limit) (sym kept) (short-room u ends stand.light);
+      each = s.each;
+      rise = s.rise;
+      behind = s.behind;
+      room = s.room;
     }
 
 -- the blocks of what a builder keeps are those of the index

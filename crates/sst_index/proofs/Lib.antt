@@ -1,12 +1,17 @@
 pub mod Separated
+pub mod Behind
 pub mod PairRows
+pub mod PairTaken
 pub mod Added
 pub mod Order
 pub mod Room
 pub mod Ready
 pub mod Parts
+pub mod PartsBehind
 pub mod PartsPut
 pub mod Kept
 pub mod TopKeys
 pub mod Fronts
 pub mod Says
+pub mod Stand
+pub mod PairWalks

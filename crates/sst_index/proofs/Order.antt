@@ -1,5 +1,5 @@
 -- The separators of an index rise, and have room in its blocks.
-use Rattle.std.proofs.Common.{◌≡◌, ◌≢◌, ℕ, zero, suc, Bool, true, false, List, [], ◌∷◌, take, drop, map, refl, sym, ◌∙◌}
+use Rattle.std.proofs.Common.{◌≡◌, ◌≢◌, ℕ, zero, suc, ◌+◌, Bool, true, false, List, [], ◌∷◌, take, drop, refl, sym, ◌∙◌}
 use Rattle.std.specs.Cmp.{IsTotalOrder}
 use Rattle.std.specs.Ordering.{nat_cmp}
 use Rattle.std.specs.Cmp.Lexicographic.{slice_cmp}
@@ -7,12 +7,13 @@ use Rattle.std.proofs.lemmas.Cmp.{nat_list_cmp_total, nat_cmp_total, on_total, t
 use Rattle.std.proofs.lemmas.List.Elements.{All-nil, All-cons, All-head, All-weaker, All-take}
 use Rattle.std.specs.declared.cmp.Ordering.{Ordering}
 use Rattle.std.specs.declared.cmp.Ordering.TheVariants.{Less, Equal, Greater}
+use Rattle.sst_num.specs.declared.block_handle.Handle.{Handle}
 use Rattle.sst_key.specs.InternalKey.{user_of, tag_of, internal_cmp}
 use Rattle.sst_block.specs.declared.row_form.RowForm.TheVariants.{Index}
 use Rattle.sst_block.specs.Block.{AreOrdered, key_cmp}
 use Rattle.sst_block.specs.IndexRows.{IndexPair}
 use Rattle.sst_index.specs.Index.{IsBeforeAll, Rise}
-use Rattle.sst_index.proofs.PairRows.{whole_row}
+use Rattle.sst_index.specs.IndexBlock.{index_rows}
 
 -- stored keys are in a total order
 pub stored_total : IsTotalOrder internal_cmp
@@ -73,8 +74,15 @@ rise-drop user_key (suc n) [] rise = tt
 rise-drop user_key (suc n) (p ∷ pairs) rise = rise-drop user_key n pairs rise.1
 
 -- so the rows are in order
-pub ordered-from_rise : (user_key delta : Bool) (pairs : List IndexPair) → Rise user_key pairs → AreOrdered (Index user_key delta) (map whole_row pairs)
-ordered-from_rise user_key delta [] rise = tt
-ordered-from_rise user_key delta (p ∷ []) rise = tt
-ordered-from_rise true delta (p ∷ q ∷ pairs) rise = (All-head (λ (r : IndexPair). slice_cmp nat_cmp p.separator r.separator ≡ Less) q pairs rise.0, ordered-from_rise true delta (q ∷ pairs) rise.1)
-ordered-from_rise false delta (p ∷ q ∷ pairs) rise = (All-head (λ (r : IndexPair). internal_cmp p.separator r.separator ≡ Less) q pairs rise.0, ordered-from_rise false delta (q ∷ pairs) rise.1)
+pub ordered-from_rise : (user_key delta : Bool) (interval i : ℕ) (key : List ℕ) (before : Handle) (pairs : List IndexPair) → Rise user_key pairs
+    → AreOrdered (Index user_key delta) (index_rows delta interval i key before pairs)
+ordered-from_rise user_key delta interval i key before [] rise = tt
+ordered-from_rise user_key delta interval i key before (p ∷ []) rise = tt
+ordered-from_rise true delta interval i key before (p ∷ q ∷ pairs) rise = (
+  All-head (λ (r : IndexPair). slice_cmp nat_cmp p.separator r.separator ≡ Less) q pairs rise.0,
+  ordered-from_rise true delta interval (i + 1) p.separator p.handle (q ∷ pairs) rise.1,
+)
+ordered-from_rise false delta interval i key before (p ∷ q ∷ pairs) rise = (
+  All-head (λ (r : IndexPair). internal_cmp p.separator r.separator ≡ Less) q pairs rise.0,
+  ordered-from_rise false delta interval (i + 1) p.separator p.handle (q ∷ pairs) rise.1,
+)

@@ -5,23 +5,22 @@ use Rattle.std.proofs.lemmas.List.{append-nil, length-map, take_min, drop_min, d
 use Rattle.std.proofs.lemmas.List.Elements.{All-head, All-tail, All-weaker}
 use Rattle.std.proofs.lemmas.List.Sums.{sum_by-take-le}
 use Rattle.sst_key.specs.Limits.{stored_key_limit}
-use Rattle.sst_block.specs.Block.{Row, no_handle}
-use Rattle.sst_block.specs.Builder.{row_room}
 use Rattle.sst_block.specs.IndexRows.{IndexPair}
-use Rattle.sst_block.proofs.Size.{block_of-le}
 use Rattle.sst_device.specs.Framed.{frame_of}
 use Rattle.sst_index.specs.declared.flags.IndexFlags.{IndexFlags}
 use Rattle.sst_index.specs.declared.builder.IndexBuilder.{IndexBuilder}
 use Rattle.sst_index.specs.declared.top.TopBuilder.{TopBuilder}
-use Rattle.sst_index.specs.IndexBlock.{form_of, rows_of_pairs, index_block}
+use Rattle.sst_index.specs.IndexBlock.{index_block}
 use Rattle.sst_index.specs.IndexBytes.{parts_of, part_pair, part_pairs, stored_parts}
 use Rattle.sst_index.specs.Index.{IsReady, Rise, kept_pair, kept_pairs, pair_room, rows_between}
 use Rattle.sst_index.specs.Parted.{ArePut}
 use Rattle.sst_index.specs.Top.{HoldsPairs, IsPair, CanAddPair}
-use Rattle.sst_index.proofs.PairRows.{whole_rows}
+use Rattle.sst_index.specs.Behind.{AreBehind}
+use Rattle.sst_index.proofs.Behind.{behind-front}
 use Rattle.sst_index.proofs.Parts.{parts-step, stored-more, part_pairs-more, part_pairs-append, tops-all, tops-rise, tops-room, all-front, rise-front, room-front}
+use Rattle.sst_index.proofs.PartsBehind.{tops-behind}
 use Rattle.sst_index.proofs.Ready.{drop-room}
-use Rattle.sst_index.proofs.Room.{rows-room, takes_next}
+use Rattle.sst_index.proofs.Room.{block-room, takes_next}
 
 -- the next partition
 pub next_part : (k : ℕ) (pairs : List IndexPair) (from to : ℕ) → to ≡ from + min (length pairs - from) k → take (to - from) (drop from pairs) ≡ take k (drop from pairs)
@@ -76,20 +75,10 @@ put_next flags interval k base pairs from to at old now new top next put some th
     }
 
 -- a block of some of the pairs is short
-part-short : (flags : IndexFlags) (interval : ℕ) (pairs : List IndexPair) (from n : ℕ) → flags.delta ≡ false → sum_by pair_room pairs + 8 < 2 ^ 29
+part-short : (flags : IndexFlags) (interval : ℕ) (pairs : List IndexPair) (from n : ℕ) → sum_by pair_room pairs + 8 < 2 ^ 29
     → length (index_block flags interval (take n (drop from pairs))) < 2 ^ 29
-part-short flags interval pairs from n whole room =
-    let part = take n (drop from pairs) in
-    let rows : rows_of_pairs flags interval part ≡ _ = whole_rows flags.delta interval 0 [] no_handle part whole in
-    omega (
-      arith,
-      block_of-le (form_of flags) interval (rows_of_pairs flags interval part),
-      ap (λ (l : List Row). sum_by row_room l) rows,
-      rows-room part,
-      sum_by-take-le pair_room (drop from pairs) n,
-      drop-room pairs from,
-      room,
-    )
+part-short flags interval pairs from n room =
+    omega (arith, block-room flags interval (take n (drop from pairs)), sum_by-take-le pair_room (drop from pairs) n, drop-room pairs from, room)
 
 all-last : (P : IndexPair → Type 0) (xs : List IndexPair) (x : IndexPair) → All P (xs ++ x ∷ []) → P x
 all-last P [] x all = All-head P x [] all
@@ -122,9 +111,11 @@ can_put b flags ready k base from to at old now top put some there e place fits 
     let seps = tops-all (IsSeparator u) flags interval base (length pairs) k pairs some (All-weaker (IsPair u) S (λ q is. (is.short, is.tagged)) pairs ready.each) in
     let sep = all-last S tops pair (all-front S (tops ++ pair ∷ []) behind (subst (λ (l : List IndexPair). All S l) all seps)) in
     let rise = tops-rise flags u interval base (length pairs) k pairs some ready.rise in
-    let short = part-short flags interval pairs from (to - from) ready.whole ready.room in
+    let short = part-short flags interval pairs from (to - from) ready.room in
+    let stand = tops-behind flags interval base (length pairs) k pairs ready.room in
     takes_next top flags interval tops pair put.holds
     (record { short = sep.0; tagged = sep.1; offset = fits; size = omega (arith, short) })
+    (behind-front (tops ++ pair ∷ []) behind (subst AreBehind all stand))
     (rise-front u (tops ++ pair ∷ []) behind (subst (λ (l : List IndexPair). Rise u l) all rise))
     (omega (arith, room-front (tops ++ pair ∷ []) behind, ap (λ (l : List IndexPair). sum_by pair_room l) all, tops-room flags interval base (length pairs) k pairs some, ready.room))
 

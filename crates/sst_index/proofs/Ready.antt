@@ -13,6 +13,8 @@ use Rattle.sst_index.specs.IndexBlock.{index_block}
 use Rattle.sst_index.specs.IndexBytes.{last_separator, part_pair}
 use Rattle.sst_index.specs.Index.{IsReady, Rise, kept_pairs, pair_room, rows_between}
 use Rattle.sst_index.specs.Top.{HoldsPairs, IsPair, CanAddPair}
+use Rattle.sst_index.specs.Behind.{AreBehind}
+use Rattle.sst_index.proofs.Behind.{behind-take, behind-drop}
 use Rattle.sst_index.proofs.Order.{rise-take, rise-drop}
 use Rattle.sst_index.proofs.Room.{takes_next}
 
@@ -48,6 +50,7 @@ ready_takes b flags ready t from n pair at holds =
     let more = pairs_more rest n pair at in
     takes_next t flags b.interval (take n rest) pair holds
     (is_pair_at (IsPair flags.user_key) rest n pair (All-drop (IsPair flags.user_key) from pairs ready.each) at)
+    (subst AreBehind (sym more) (behind-take (n + 1) rest (behind-drop from pairs ready.behind)))
     (subst (λ (l : List IndexPair). Rise flags.user_key l) (sym more) (rise-take flags.user_key (n + 1) rest (rise-drop flags.user_key from pairs ready.rise)))
     (omega (arith, ap (λ (l : List IndexPair). sum_by pair_room l) more, sum_by-take-le pair_room rest (n + 1), drop-room pairs from, ready.room))
 

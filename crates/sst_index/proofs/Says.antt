@@ -1,26 +1,26 @@
 -- The blocks of an index say the pairs of its data blocks.
-use Rattle.std.proofs.Common.{◌≡◌, ℕ, zero, suc, ◌+◌, ◌*◌, ◌^◌, ◌<◌, ◌≤◌, Bool, false, List, [], ◌∷◌, ◌++◌, length, length-take, length-drop, take, drop, map, All, sum_by, refl, sym, ap, ◌∙◌, subst, arith}
+use Rattle.std.proofs.Common.{◌≡◌, ℕ, zero, suc, ◌+◌, ◌*◌, ◌^◌, ◌<◌, ◌≤◌, Bool, false, List, [], ◌∷◌, ◌++◌, length, length-take, length-drop, take, drop, All, sum_by, refl, ap, ◌∙◌, arith}
 use Rattle.std.specs.List.{flat_map}
 use Rattle.std.proofs.lemmas.List.{take-append-drop}
 use Rattle.std.proofs.lemmas.List.Elements.{All-nil, All-cons, All-head, All-tail, All-take, All-drop}
 use Rattle.std.proofs.lemmas.List.Sums.{sum_by-cons, sum_by-take-le, sum_by-take-drop}
 use Rattle.sst_key.specs.Limits.{stored_key_limit}
-use Rattle.sst_block.specs.Block.{Row, AreOrdered, no_handle}
-use Rattle.sst_block.specs.Builder.{row_room}
+use Rattle.sst_block.specs.Block.{no_handle}
 use Rattle.sst_block.specs.IndexRows.{IndexPair, IndexRows}
-use Rattle.sst_block.proofs.Size.{block_of-le}
 use Rattle.sst_index.specs.declared.flags.IndexFlags.{IndexFlags}
 use Rattle.sst_index.specs.Ends.{BlockEnd, AreEnds, flags_of, pairs_of}
 use Rattle.sst_index.specs.Index.{AreOptions, pair_room}
-use Rattle.sst_index.specs.IndexBlock.{form_of, rows_of_pairs, index_block}
+use Rattle.sst_index.specs.IndexBlock.{index_block}
 use Rattle.sst_index.specs.IndexBytes.{IndexOptions, in_parts, parts_of, part_pair, part_pairs, top_pairs, top_block}
 use Rattle.sst_index.specs.Top.{IsPair}
-use Rattle.sst_index.proofs.Kept.{Standing, pairs-stand, whole-below}
+use Rattle.sst_index.proofs.Kept.{Standing, pairs-stand}
 use Rattle.sst_index.proofs.Order.{rise-take, rise-drop, ordered-from_rise}
-use Rattle.sst_index.proofs.PairRows.{whole_row, whole_rows, index_block_says}
+use Rattle.sst_index.proofs.PairRows.{index_block_says}
+use Rattle.sst_index.proofs.Behind.{behind-take, behind-drop}
+use Rattle.sst_index.proofs.PartsBehind.{tops-behind}
 use Rattle.sst_index.proofs.Parts.{tops-all, tops-rise, tops-room}
 use Rattle.sst_index.proofs.Ready.{drop-room}
-use Rattle.sst_index.proofs.Room.{rows-room}
+use Rattle.sst_index.proofs.Room.{block-room}
 
 -- all pairs stand in the parts
 joined : (most k : ℕ) (pairs : List IndexPair) → 1 ≤ k → length pairs ≤ most → flat_map (λ (part : List IndexPair). part) (in_parts most k pairs) ≡ pairs
@@ -49,57 +49,61 @@ pub parts-parts : (k : ℕ) (pairs : List IndexPair) → 0 < k → All (λ (part
 parts-parts k pairs some = are-parts (length pairs) k pairs (omega arith)
 
 -- pairs that stand, and the block of these
-standing-take : (u : Bool) (n : ℕ) (pairs : List IndexPair) → Standing u pairs → Standing u (take n pairs)
+pub standing-take : (u : Bool) (n : ℕ) (pairs : List IndexPair) → Standing u pairs → Standing u (take n pairs)
 standing-take u n pairs s =
-    record { each = All-take (IsPair u) n pairs s.each; rise = rise-take u n pairs s.rise; room = omega (arith, sum_by-take-le pair_room pairs n, s.room) }
+    record {
+      each = All-take (IsPair u) n pairs s.each;
+      rise = rise-take u n pairs s.rise;
+      behind = behind-take n pairs s.behind;
+      room = omega (arith, sum_by-take-le pair_room pairs n, s.room);
+    }
 
-standing-drop : (u : Bool) (n : ℕ) (pairs : List IndexPair) → Standing u pairs → Standing u (drop n pairs)
+pub standing-drop : (u : Bool) (n : ℕ) (pairs : List IndexPair) → Standing u pairs → Standing u (drop n pairs)
 standing-drop u n pairs s =
-    record { each = All-drop (IsPair u) n pairs s.each; rise = rise-drop u n pairs s.rise; room = omega (arith, drop-room pairs n, s.room) }
+    record {
+      each = All-drop (IsPair u) n pairs s.each;
+      rise = rise-drop u n pairs s.rise;
+      behind = behind-drop n pairs s.behind;
+      room = omega (arith, drop-room pairs n, s.room);
+    }
 
-block-room : (flags : IndexFlags) (interval : ℕ) (pairs : List IndexPair) → flags.delta ≡ false → length (index_block flags interval pairs) ≤ sum_by pair_room pairs + 8
-block-room flags interval pairs whole =
-    let rows : rows_of_pairs flags interval pairs ≡ map whole_row pairs = whole_rows flags.delta interval 0 [] no_handle pairs whole in
-    omega (arith, block_of-le (form_of flags) interval (rows_of_pairs flags interval pairs), ap (λ (l : List Row). sum_by row_room l) rows, rows-room pairs)
-
-standing-says : (flags : IndexFlags) (interval : ℕ) (pairs : List IndexPair) → flags.delta ≡ false → 0 < interval → Standing flags.user_key pairs
+pub standing-says : (flags : IndexFlags) (interval : ℕ) (pairs : List IndexPair) → 0 < interval → Standing flags.user_key pairs
     → IndexRows flags.user_key flags.delta (index_block flags interval pairs) pairs
-standing-says flags interval pairs whole positive s =
-    let rows : rows_of_pairs flags interval pairs ≡ map whole_row pairs = whole_rows flags.delta interval 0 [] no_handle pairs whole in
-    index_block_says flags interval pairs whole positive s.each
-    (subst (λ (l : List Row). AreOrdered (form_of flags) l) (sym rows) (ordered-from_rise flags.user_key flags.delta pairs s.rise))
-    (omega (arith, block-room flags interval pairs whole, s.room))
+standing-says flags interval pairs positive s =
+    index_block_says flags interval pairs (λ _. s.behind) positive s.each
+    (ordered-from_rise flags.user_key flags.delta interval 0 [] no_handle pairs s.rise)
+    (omega (arith, block-room flags interval pairs, s.room))
 
 -- each partition says its pairs
-parts-say : (flags : IndexFlags) (interval most k : ℕ) (pairs : List IndexPair) → flags.delta ≡ false → 0 < interval → Standing flags.user_key pairs
+parts-say : (flags : IndexFlags) (interval most k : ℕ) (pairs : List IndexPair) → 0 < interval → Standing flags.user_key pairs
     → All (λ (part : List IndexPair). IndexRows flags.user_key flags.delta (index_block flags interval part) part) (in_parts most k pairs)
-parts-say flags interval zero k pairs whole positive s = All-nil (λ (part : List IndexPair). IndexRows flags.user_key flags.delta (index_block flags interval part) part)
-parts-say flags interval (suc most) k [] whole positive s = All-nil (λ (part : List IndexPair). IndexRows flags.user_key flags.delta (index_block flags interval part) part)
-parts-say flags interval (suc most) k (p ∷ pairs) whole positive s =
+parts-say flags interval zero k pairs positive s = All-nil (λ (part : List IndexPair). IndexRows flags.user_key flags.delta (index_block flags interval part) part)
+parts-say flags interval (suc most) k [] positive s = All-nil (λ (part : List IndexPair). IndexRows flags.user_key flags.delta (index_block flags interval part) part)
+parts-say flags interval (suc most) k (p ∷ pairs) positive s =
     All-cons (λ (part : List IndexPair). IndexRows flags.user_key flags.delta (index_block flags interval part) part) (take k (p ∷ pairs)) (in_parts most k (drop k (p ∷ pairs)))
-    (standing-says flags interval (take k (p ∷ pairs)) whole positive (standing-take flags.user_key k (p ∷ pairs) s))
-    (parts-say flags interval most k (drop k (p ∷ pairs)) whole positive (standing-drop flags.user_key k (p ∷ pairs) s))
+    (standing-says flags interval (take k (p ∷ pairs)) positive (standing-take flags.user_key k (p ∷ pairs) s))
+    (parts-say flags interval most k (drop k (p ∷ pairs)) positive (standing-drop flags.user_key k (p ∷ pairs) s))
 
 -- a separator and where its block stands
 abbrev IsSeparator : Bool → IndexPair → Type 0
 IsSeparator user_key q = (length q.separator ≤ stored_key_limit) × (user_key ≡ false → 8 ≤ length q.separator)
 
 -- the partitions stand within 64 bits
-tops-handles : (flags : IndexFlags) (interval at most k : ℕ) (pairs : List IndexPair) → flags.delta ≡ false → 1 ≤ k → at + 2 * sum_by pair_room pairs < 2 ^ 63
+tops-handles : (flags : IndexFlags) (interval at most k : ℕ) (pairs : List IndexPair) → 1 ≤ k → at + 2 * sum_by pair_room pairs < 2 ^ 63
     → All (λ (q : IndexPair). (q.handle.offset < 2 ^ 64) × (q.handle.size < 2 ^ 64)) (part_pairs flags interval at (in_parts most k pairs))
-tops-handles flags interval at zero k pairs whole some near = All-nil (λ (q : IndexPair). (q.handle.offset < 2 ^ 64) × (q.handle.size < 2 ^ 64))
-tops-handles flags interval at (suc most) k [] whole some near = All-nil (λ (q : IndexPair). (q.handle.offset < 2 ^ 64) × (q.handle.size < 2 ^ 64))
-tops-handles flags interval at (suc most) zero (p ∷ pairs) whole some near = absurd (omega arith)
-tops-handles flags interval at (suc most) (suc k) (p ∷ pairs) whole some near =
+tops-handles flags interval at zero k pairs some near = All-nil (λ (q : IndexPair). (q.handle.offset < 2 ^ 64) × (q.handle.size < 2 ^ 64))
+tops-handles flags interval at (suc most) k [] some near = All-nil (λ (q : IndexPair). (q.handle.offset < 2 ^ 64) × (q.handle.size < 2 ^ 64))
+tops-handles flags interval at (suc most) zero (p ∷ pairs) some near = absurd (omega arith)
+tops-handles flags interval at (suc most) (suc k) (p ∷ pairs) some near =
     let part = p ∷ take k pairs in
     let next = at + length (index_block flags interval part) + 5 in
-    let short = block-room flags interval part whole in
+    let short = block-room flags interval part in
     let here = sum_by-cons pair_room p (take k pairs) in
     let all = sum_by-cons pair_room p pairs in
     let split = sum_by-take-drop pair_room pairs k in
     All-cons (λ (q : IndexPair). (q.handle.offset < 2 ^ 64) × (q.handle.size < 2 ^ 64)) (part_pair flags interval at part) (part_pairs flags interval next (in_parts most (suc k) (drop k pairs)))
     (omega (arith, near), omega (arith, near, short, here, all, split))
-    (tops-handles flags interval next most (suc k) (drop k pairs) whole some (omega (arith, near, short, here, all, split)))
+    (tops-handles flags interval next most (suc k) (drop k pairs) some (omega (arith, near, short, here, all, split)))
 
 is_pairs : (u : Bool) (pairs : List IndexPair) → All (IsSeparator u) pairs → All (λ (q : IndexPair). (q.handle.offset < 2 ^ 64) × (q.handle.size < 2 ^ 64)) pairs → All (IsPair u) pairs
 is_pairs u [] seps handles = All-nil (IsPair u)
@@ -116,17 +120,18 @@ separators-of u (q ∷ pairs) each =
     let is = All-head (IsPair u) q pairs each in
     All-cons (IsSeparator u) q pairs (is.short, is.tagged) (separators-of u pairs (All-tail (IsPair u) q pairs each))
 
-tops-standing : (flags : IndexFlags) (interval base parts : ℕ) (pairs : List IndexPair) → flags.delta ≡ false → base < 2 ^ 40 → Standing flags.user_key pairs
+tops-standing : (flags : IndexFlags) (interval base parts : ℕ) (pairs : List IndexPair) → base < 2 ^ 40 → Standing flags.user_key pairs
     → Standing flags.user_key (top_pairs flags interval parts base pairs)
-tops-standing flags interval base zero pairs whole near s = s
-tops-standing flags interval base (suc k) pairs whole near s =
+tops-standing flags interval base zero pairs near s = s
+tops-standing flags interval base (suc k) pairs near s =
     let u = flags.user_key in
     let most = length pairs in
     record {
       each = is_pairs u (part_pairs flags interval base (parts_of (suc k) pairs))
           (tops-all (λ (t : List ℕ). (length t ≤ stored_key_limit) × (u ≡ false → 8 ≤ length t)) flags interval base most (suc k) pairs (omega arith) (separators-of u pairs s.each))
-          (tops-handles flags interval base most (suc k) pairs whole (omega arith) (omega (arith, near, s.room)));
+          (tops-handles flags interval base most (suc k) pairs (omega arith) (omega (arith, near, s.room)));
       rise = tops-rise flags u interval base most (suc k) pairs (omega arith) s.rise;
+      behind = tops-behind flags interval base most (suc k) pairs s.room;
       room = omega (arith, tops-room flags interval base most (suc k) pairs (omega arith), s.room);
     }
 
@@ -135,7 +140,7 @@ pub partitions-say : (o : IndexOptions) (ends : List BlockEnd) → AreOptions o 
     (parts_of o.parts (pairs_of o.version ends))
 partitions-say o ends options stand =
     let pairs = pairs_of o.version ends in
-    parts-say (flags_of o.version ends) o.interval (length pairs) o.parts pairs (whole-below o.version options.version_most) (omega (arith, options.least)) (pairs-stand o.version ends stand)
+    parts-say (flags_of o.version ends) o.interval (length pairs) o.parts pairs (omega (arith, options.least)) (pairs-stand o.version ends stand)
 
 pub top-says : (o : IndexOptions) (base : ℕ) (ends : List BlockEnd) → AreOptions o → AreEnds ends → base < 2 ^ 40
     → IndexRows (flags_of o.version ends).user_key (flags_of o.version ends).delta
@@ -143,6 +148,5 @@ pub top-says : (o : IndexOptions) (base : ℕ) (ends : List BlockEnd) → AreOpt
 top-says o base ends options stand near =
     let flags = flags_of o.version ends in
     let pairs = pairs_of o.version ends in
-    let whole = whole-below o.version options.version_most in
-    standing-says flags o.interval (top_pairs flags o.interval o.parts base pairs) whole (omega (arith, options.least))
-    (tops-standing flags o.interval base o.parts pairs whole near (pairs-stand o.version ends stand))
+    standing-says flags o.interval (top_pairs flags o.interval o.parts base pairs) (omega (arith, options.least))
+    (tops-standing flags o.interval base o.parts pairs near (pairs-stand o.version ends stand))

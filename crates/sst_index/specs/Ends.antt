@@ -35,7 +35,7 @@ shares_user e = begins_with e.last e.next_first
 -- RocksDB: index_builder.h, seperator_is_key_plus_seq, and use_value_delta_encoding in
 -- table/block_based/block_based_table_builder.cc. That it is decided for the whole index is RocksDB's too; the versions are
 -- those of include/rocksdb/table.h, format_version
--- Pinned by: index_of_blocks_that_share, index_of_user_keys, index_of_no_block, user_keys_though_shared
+-- Pinned by: index_of_blocks_that_share, index_of_user_keys, index_of_differences, user_keys_though_shared
 abbrev pub flags_of : ℕ → List BlockEnd → IndexFlags
 flags_of version ends = record { user_key = nat_le 3 version && not (list_any shares_user ends); delta = nat_le 4 version }
 

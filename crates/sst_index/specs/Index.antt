@@ -13,6 +13,7 @@ use Rattle.sst_index.specs.declared.builder.IndexBuilder.{IndexBuilder}
 use Rattle.sst_index.specs.declared.builder.IndexRow.{IndexRow}
 use Rattle.sst_index.specs.Ends.{BlockEnd, AreEnds, shares_user, stored_separator, separator_in}
 use Rattle.sst_index.specs.IndexBytes.{IndexOptions}
+use Rattle.sst_index.specs.Behind.{AreBehind}
 use Rattle.sst_index.specs.Top.{IsPair}
 
 -- memory ran out in an earlier call
@@ -33,7 +34,7 @@ rows_from at (e ∷ ends) =
 -- Pinned by: new.holds
 pub record AreOptions (o : IndexOptions) : Type 0 where
   pub version_least : 2 ≤ o.version
-  pub version_most : o.version ≤ 3
+  pub version_most : o.version ≤ 4
   pub least : 1 ≤ o.interval
   pub most : o.interval ≤ 65536
 
@@ -105,10 +106,10 @@ pair_room p = length p.separator + 54
 -- the pairs of a builder may stand in blocks, of these flags
 -- For proofs alone.
 pub record IsReady (b : IndexBuilder) (flags : IndexFlags) : Type 0 where
-  pub whole : flags.delta ≡ false
   pub least : 1 ≤ b.interval
   pub most : b.interval ≤ 65536
   pub kept : All (IsKept b.keys.items) b.rows.items
   pub each : All (IsPair flags.user_key) (kept_pairs flags.user_key b)
   pub rise : Rise flags.user_key (kept_pairs flags.user_key b)
+  pub behind : AreBehind (kept_pairs flags.user_key b)
   pub room : sum_by pair_room (kept_pairs flags.user_key b) + 8 < block_limit

@@ -19,7 +19,7 @@ form_of flags = Index flags.user_key flags.delta
 -- the value of a row that shares so many bytes: the handle, or the difference of its size from that of the handle before,
 -- where handles are differences and the row shares bytes
 -- RocksDB: table/format.cc, IndexValue::EncodeTo
--- Pinned by: an_index_block_says_its_pairs
+-- Pinned by: an_index_block_says_its_pairs, index_of_differences
 abbrev pub handle_value : Bool → ℕ → Handle → Handle → List ℕ
 handle_value false shared before h = handle_spelling h
 handle_value true zero before h = handle_spelling h

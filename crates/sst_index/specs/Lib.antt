@@ -1,7 +1,10 @@
 pub mod Separators
 pub mod IndexBlock
+pub mod Behind
 pub mod Top
 pub mod Ends
 pub mod IndexBytes
 pub mod Index
 pub mod Parted
+pub mod Partitions
+pub mod Walk

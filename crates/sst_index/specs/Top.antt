@@ -8,6 +8,7 @@ use Rattle.sst_block.specs.Builder.{Holds}
 use Rattle.sst_block.specs.IndexRows.{IndexPair}
 use Rattle.sst_index.specs.declared.flags.IndexFlags.{IndexFlags}
 use Rattle.sst_index.specs.declared.top.TopBuilder.{TopBuilder}
+use Rattle.sst_index.specs.Behind.{AreBehind, last_of}
 use Rattle.sst_index.specs.IndexBlock.{form_of, rows_of_pairs, index_block}
 
 -- memory ran out in an earlier call
@@ -26,16 +27,19 @@ pub record IsPair (user_key : Bool) (pair : IndexPair) : Type 0 where
   pub offset : pair.handle.offset < 2 ^ 64
   pub size : pair.handle.size < 2 ^ 64
 
--- the builder holds the pairs, which were added in this order
+-- the builder holds the pairs, which were added in this order, and the handle of the last
 -- Own.
 -- Pinned by: finish.exact
 pub record HoldsPairs (t : TopBuilder) (flags : IndexFlags) (interval : ℕ) (pairs : List IndexPair) : Type 0 where
   pub sound : t.failed ≡ false
-  pub whole : flags.delta ≡ false
+  pub delta_is : t.delta ≡ flags.delta
+  pub before_is : t.before ≡ last_of pairs
   pub pairs_are : All (IsPair flags.user_key) pairs
+  pub behind : flags.delta ≡ true → AreBehind pairs
   pub block : Holds t.block (form_of flags) interval (rows_of_pairs flags interval pairs)
 
--- the pair may come after those that the builder holds: its separator is after the last, and the block stays short
+-- the pair may come after those that the builder holds: its separator is after the last, and the block stays short; where
+-- handles are differences, its block begins behind the last one
 -- Own.
 -- Pinned by: add.ok
 pub record TakesPair (t : TopBuilder) (pair : IndexPair) : Type 0 where
@@ -44,6 +48,7 @@ pub record TakesPair (t : TopBuilder) (pair : IndexPair) : Type 0 where
   pub pairs : List IndexPair
   pub holds : HoldsPairs t flags interval pairs
   pub form : IsPair flags.user_key pair
+  pub behind : flags.delta ≡ true → AreBehind (pairs ++ pair ∷ [])
   pub ordered : AreOrdered (form_of flags) (rows_of_pairs flags interval (pairs ++ pair ∷ []))
   pub short : length (index_block flags interval (pairs ++ pair ∷ [])) < block_limit
 

@@ -58,7 +58,7 @@ pub struct IndexBuilder {
 impl IndexBuilder {
     /// A builder with no data block.
     ///
-    /// `version` is that of the format, for now 2 or 3. `interval`, from 1 to 65,536, is how many rows a restart begins.
+    /// `version` is that of the format, from 2 to 4. `interval`, from 1 to 65,536, is how many rows a restart begins.
     /// `parts` is how many rows a partition has, or 0, where the index is one block.
     /// RocksDB: `IndexBuilder::CreateIndexBuilder` in table/block_based/index_builder.cc.
     pub fn new(
@@ -68,7 +68,7 @@ impl IndexBuilder {
         parts: u32,
     ) -> Result<IndexBuilder, Memory>
         requires version_least { 2 ≤ version }
-        requires version_most { version ≤ 3 }
+        requires version_most { version ≤ 4 }
         requires least { 1 ≤ interval }
         requires most { interval ≤ 65536 }
         ensures holds { IfOk result (λ b. Holds b (record { version = version; interval = interval; parts = parts }) []) }

@@ -1,5 +1,5 @@
 //! Laws: where a separator stands, and what an index block says.
-ghost use Rattle.std.specs.Prelude.{◌≡◌, ◌≢◌, ℕ, ◌^◌, ◌<◌, ◌≤◌, false, List, length, All};
+ghost use Rattle.std.specs.Prelude.{◌≡◌, ◌≢◌, ℕ, ◌+◌, ◌^◌, ◌<◌, ◌≤◌, true, false, List, ◌++◌, length, slice_get, All, Some};
 ghost use Rattle.std.specs.List.{flat_map};
 ghost use Rattle.std.specs.Ordering.{nat_cmp};
 ghost use Rattle.std.specs.Cmp.Lexicographic.{slice_cmp};
@@ -7,13 +7,17 @@ ghost use Rattle.std.specs.declared.cmp.Ordering.TheVariants.{Less, Greater};
 ghost use Rattle.sst_key.specs.InternalKey.{user_of, internal_cmp};
 ghost use Rattle.sst_block.specs.Block.{AreOrdered};
 ghost use Rattle.sst_block.specs.IndexRows.{IndexPair, IndexRows};
+ghost use Rattle.sst_device.specs.Framed.{Framed};
 ghost use Rattle.sst_index.specs.declared.flags.IndexFlags.{IndexFlags};
+ghost use Rattle.sst_index.specs.Behind.{AreBehind};
 ghost use Rattle.sst_index.specs.Ends.{AreEnds, BlockEnd, flags_of, pairs_of};
 ghost use Rattle.sst_index.specs.Index.{AreOptions};
-ghost use Rattle.sst_index.specs.IndexBytes.{IndexOptions, parts_of, top_block, top_pairs};
+ghost use Rattle.sst_index.specs.IndexBytes.{IndexOptions, index_bytes, parts_of, top_block, top_handle, top_pairs};
 ghost use Rattle.sst_index.specs.IndexBlock.{form_of, index_block, rows_of_pairs};
+ghost use Rattle.sst_index.specs.Partitions.{LeadToPartitions};
 ghost use Rattle.sst_index.specs.Separators.{separator_between, separator_after};
 ghost use Rattle.sst_index.specs.Top.{IsPair};
+ghost use Rattle.sst_index.specs.Walk.{is_pair_before, pairs_before};
 
 /// A separator stands between the last key of its block and the first key of the next.
 ///
@@ -45,10 +49,10 @@ pub fn a_separator_ends()
 /// The index block that is made of some pairs says these pairs.
 ///
 /// It holds of pairs whose separators are in the order of the form, of any restart interval but 0, and of blocks of at most
-/// 2^29 bytes. For now it is said of handles that stand whole.
+/// 2^29 bytes. Where handles are differences, each block to which a pair leads begins behind the one before.
 /// RocksDB: `IndexValue::EncodeTo` and `DecodeFrom` in table/format.cc.
 pub fn an_index_block_says_its_pairs()
-    ensures { (flags : IndexFlags) (interval : ℕ) (pairs : List IndexPair) → flags.delta ≡ false → 0 < interval
+    ensures { (flags : IndexFlags) (interval : ℕ) (pairs : List IndexPair) → (flags.delta ≡ true → AreBehind pairs) → 0 < interval
         → All (IsPair flags.user_key) pairs → AreOrdered (form_of flags) (rows_of_pairs flags interval pairs)
         → length (index_block flags interval pairs) ≤ 2 ^ 29
         → IndexRows flags.user_key flags.delta (index_block flags interval pairs) pairs }
@@ -58,7 +62,7 @@ pub fn an_index_block_says_its_pairs()
 ///
 /// `partitions`: each partition says its part of the pairs. `top`: the top block says all of them where there are no
 /// partitions, and else the last separator of each partition, and where that stands, one behind the other from `base` on.
-/// It holds of data blocks that a builder takes, and of versions of the format in which handles stand whole.
+/// It holds of data blocks that a builder takes, in each version of the format that it takes.
 /// RocksDB: `PartitionedIndexBuilder::Finish` in table/block_based/index_builder.cc.
 pub fn an_index_says_its_pairs()
     ensures partitions { (o : IndexOptions) (blocks : List BlockEnd) → AreOptions o → AreEnds blocks
@@ -69,6 +73,39 @@ pub fn an_index_says_its_pairs()
         → IndexRows (flags_of o.version blocks).user_key (flags_of o.version blocks).delta
         (top_block (flags_of o.version blocks) o.interval o.parts base (pairs_of o.version blocks))
         (top_pairs (flags_of o.version blocks) o.interval o.parts base (pairs_of o.version blocks)) }
+{}
+
+/// The blocks of an index stand in a file at their handles, whatever stands before and behind it.
+///
+/// `partitions`: where there are partitions, each row of the top block leads to its own: this one's last separator is that of
+/// the row, it stands at the handle of the row, with its trailer, and says its part of the pairs, of which there is one at
+/// least. `top`: the top block stands at its handle. `end` is the file's length without its footer, or any number that the
+/// index doesn't pass.
+/// RocksDB: `PartitionedIndexBuilder::Finish` in table/block_based/index_builder.cc, and
+/// `BlockBasedTableBuilder::WriteIndexBlock` in table/block_based/block_based_table_builder.cc.
+pub fn an_index_stands_in_a_file()
+    ensures partitions { (o : IndexOptions) (front rest : List ℕ) (end : ℕ) (blocks : List BlockEnd) → AreOptions o → AreEnds blocks → 0 < o.parts
+        → length front + length (index_bytes o (length front) blocks) ≤ end
+        → LeadToPartitions (front ++ (index_bytes o (length front) blocks ++ rest)) end (flags_of o.version blocks) o.interval
+        (top_pairs (flags_of o.version blocks) o.interval o.parts (length front) (pairs_of o.version blocks))
+        (parts_of o.parts (pairs_of o.version blocks)) }
+    ensures top { (o : IndexOptions) (front rest : List ℕ) (end : ℕ) (blocks : List BlockEnd) → AreEnds blocks
+        → length front + length (index_bytes o (length front) blocks) ≤ end
+        → Framed (front ++ (index_bytes o (length front) blocks ++ rest)) end (top_handle o (length front) blocks)
+        (top_block (flags_of o.version blocks) o.interval o.parts (length front) (pairs_of o.version blocks)) }
+{}
+
+/// The pairs before a target come first in an index block, so a seek goes to the first pair that isn't before it.
+///
+/// The target is a user key and a tag. `before`: a pair whose separator is before it has a number below that of all such
+/// pairs. `not`: each other pair doesn't. RocksDB: `IndexBlockIter::SeekImpl` in table/block_based/block.cc.
+pub fn a_seek_passes_the_pairs_before()
+    ensures before { (flags : IndexFlags) (bytes : List ℕ) (pairs : List IndexPair) (user : List ℕ) (tag i : ℕ) (pair : IndexPair)
+        → IndexRows flags.user_key flags.delta bytes pairs → tag < 2 ^ 64 → slice_get pairs i ≡ Some pair
+        → is_pair_before flags.user_key user tag pair ≡ true → i < pairs_before flags.user_key user tag pairs }
+    ensures not { (flags : IndexFlags) (bytes : List ℕ) (pairs : List IndexPair) (user : List ℕ) (tag i : ℕ) (pair : IndexPair)
+        → IndexRows flags.user_key flags.delta bytes pairs → tag < 2 ^ 64 → slice_get pairs i ≡ Some pair
+        → is_pair_before flags.user_key user tag pair ≡ false → pairs_before flags.user_key user tag pairs ≤ i }
 {}
 
 /// The partitions have all pairs, in their order.

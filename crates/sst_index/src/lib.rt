@@ -26,7 +26,7 @@
 //! ```
 //!
 //! From version 3 of the format on, the separators of a table are user keys, with no tag, exactly where no two neighbouring
-//! blocks share a user key. From version 4 on a handle may be told by its difference from the one before.
+//! blocks share a user key.
 //!
 //! # Layout
 //!
@@ -59,20 +59,41 @@
 //! 370 00 5d d7 43 9c                               the trailer
 //! ```
 //!
+//! # Handles as differences
+//!
+//! From version 4 on a row has no length of its value, and a row that shares bytes with the one before tells its handle by
+//! that one: its block begins behind the other's trailer, so the value is only the size less the size before, as a signed
+//! varint. Data blocks stand so, and partitions. Each block of an index begins with a row that shares nothing and tells its
+//! handle whole.
+//!
+//! The same three data blocks with 100, 200 and 120 bytes, at 0, 105 and 310, in version 4, as one block whose one restart
+//! begins all rows:
+//!
+//! ```text
+//! at bytes                                     what they are
+//!  0 00 09 6b 01 09 00 00 00 00 00 00 00 64    k at 9 leads to 0, 100 bytes
+//! 13 02 07 05 00 00 00 00 00 00 c8 01          k at 5, 100 bytes more: it leads to 0 + 100 + 5 = 105, 200 bytes
+//! 24 02 07 02 00 00 00 00 00 00 9f 01          k at 2, 80 bytes fewer: it leads to 105 + 200 + 5 = 310, 120 bytes
+//! 35 00 00 00 00 01 00 00 00                   the one restart
+//! ```
+//!
 //! # Promises
 //!
 //! - [`put_separator`] appends the separator (`separator_of`, specs/Separators.antt), and takes no other memory.
 //! - A separator separates, among stored keys, and also by user keys alone where the two user keys differ; and it is no longer
 //!   than the last key ([`a_separator_separates`], [`a_separator_ends`]).
 //! - [`TopBuilder`] makes the one index block of its pairs (`index_block`, specs/IndexBlock.antt), and that block says these pairs
-//!   (`IndexRows` of `sst_block`; [`an_index_block_says_its_pairs`]).
+//!   (`IndexRows` of `sst_block`; [`an_index_block_says_its_pairs`]). Where handles are differences, it asks that each block
+//!   begins behind the one before (`AreBehind`, specs/Behind.antt).
 //! - [`IndexBuilder`] takes where the data blocks end, and appends the bytes of their index (`index_bytes`,
 //!   specs/IndexBytes.antt). It tells the flags of the index, and the keys of its top block. It keeps each separator once.
 //! - Each partition says its part of the pairs, and the top block says where each partition stands, by its last separator
-//!   ([`an_index_says_its_pairs`]); the partitions have all pairs ([`partitions_are_the_pairs`]).
+//!   ([`an_index_says_its_pairs`]); the partitions have all pairs ([`partitions_are_the_pairs`]). In a file each stands at its
+//!   handle ([`an_index_stands_in_a_file`]).
+//! - [`IndexIter`] goes over the pairs of an index block that was checked: each move is one move on their list (`WalksPairs`,
+//!   specs/Walk.antt), and a seek goes to the first pair whose separator isn't before the target
+//!   ([`a_seek_passes_the_pairs_before`]). It takes no memory.
 //! - Where memory runs out a call answers so, and so does each later call of that builder that can fail.
-//!
-//! Handles that are differences are not written yet.
 //!
 //! RocksDB: table/block_based/index_builder.h and index_builder.cc, and util/comparator.cc. RocksDB shortens separators in more
 //! cases, and ends a partition by its size; which keys are shortened and how many rows a partition has is this project's own.
@@ -83,13 +104,16 @@ mod flags;
 mod laws;
 mod separators;
 mod top;
+mod walk;
 mod writing;
 
 pub use builder::IndexBuilder;
 pub use flags::IndexFlags;
 pub use laws::{
-    a_separator_ends, a_separator_separates, an_index_block_says_its_pairs,
-    an_index_says_its_pairs, partitions_are_the_pairs,
+    a_seek_passes_the_pairs_before, a_separator_ends, a_separator_separates,
+    an_index_block_says_its_pairs, an_index_says_its_pairs, an_index_stands_in_a_file,
+    partitions_are_the_pairs,
 };
 pub use separators::put_separator;
 pub use top::TopBuilder;
+pub use walk::IndexIter;

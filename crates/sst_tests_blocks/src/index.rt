@@ -201,3 +201,64 @@ fn index_of_no_block(rt: HostRuntime) -> Result<(), Fail> {
     assert_eq!(rt; (top.offset, top.size), (0, 8));
     Ok(())
 }
+
+/// Three blocks of the user key k, at the sequence numbers 9, 5 and 2, which differ in size.
+const DIFFERING: [(&[u8], Option<&[u8]>, Handle); 3] = [
+    (
+        b"k\x01\x09\0\0\0\0\0\0",
+        Some(b"k\x01\x05\0\0\0\0\0\0"),
+        Handle {
+            offset: 0,
+            size: 100,
+        },
+    ),
+    (
+        b"k\x01\x05\0\0\0\0\0\0",
+        Some(b"k\x01\x02\0\0\0\0\0\0"),
+        Handle {
+            offset: 105,
+            size: 200,
+        },
+    ),
+    (
+        b"k\x01\x02\0\0\0\0\0\0",
+        None,
+        Handle {
+            offset: 310,
+            size: 120,
+        },
+    ),
+];
+
+/// Their index in version 4 as one block: the first handle is whole, and the sizes go up by 100 and down by 80.
+const DIFFERENCES: &[u8] =
+    b"\0\x09k\x01\x09\0\0\0\0\0\0\0\x64\x02\x07\x05\0\0\0\0\0\0\xc8\x01\x02\x07\x02\0\0\0\0\0\0\x9f\x01\
+\0\0\0\0\x01\0\0\0\0\xab\xf2\x1d\x8d";
+
+/// One row a partition, of 21, 22 and 22 bytes from 435 on, and the top block: its sizes go up by 1 and by none.
+const DIFFERENCES_IN_PARTS: &[u8] =
+    b"\0\x09k\x01\x09\0\0\0\0\0\0\0\x64\0\0\0\0\x01\0\0\0\0\x20\xa5\x45\xf6\
+\0\x09k\x01\x05\0\0\0\0\0\0\x69\xc8\x01\0\0\0\0\x01\0\0\0\0\xe1\x32\x79\x41\
+\0\x09k\x01\x02\0\0\0\0\0\0\xb6\x02\x78\0\0\0\0\x01\0\0\0\0\0\x1d\x32\x65\
+\0\x09k\x01\x09\0\0\0\0\0\0\xb3\x03\x15\x02\x07\x05\0\0\0\0\0\0\x02\x02\x07\x02\0\0\0\0\0\0\0\
+\0\0\0\0\x01\0\0\0\0\x72\xfb\x99\xde";
+
+/// How many rows a partition has, the bytes of the index, and where its top block stands.
+static WITH_DIFFERENCES: [(u32, &[u8], (u64, u64)); 2] = [
+    (0, DIFFERENCES, (435, 43)),
+    (1, DIFFERENCES_IN_PARTS, (515, 42)),
+];
+
+#[test]
+fn index_of_differences(rt: HostRuntime) -> Result<(), Fail> {
+    for (parts, bytes, place) in WITH_DIFFERENCES {
+        let mut builder = IndexBuilder::new(rt.alloc(), 4, 3, parts)?;
+        add_blocks(&mut builder, &DIFFERING)?;
+        assert!(rt; builder.flags().delta);
+        let mut out = Vec::new(rt.alloc());
+        let top = builder.finish(435, &mut out)?;
+        assert_eq!(rt; out.as_slice(), bytes);
+        assert_eq!(rt; (top.offset, top.size), place);
+    }
+    Ok(())
+}

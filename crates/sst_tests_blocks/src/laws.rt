@@ -13,7 +13,7 @@ use sst_block::{
 };
 use sst_index::{
     a_separator_ends, a_separator_separates, an_index_block_says_its_pairs,
-    an_index_says_its_pairs, partitions_are_the_pairs,
+    an_index_says_its_pairs, an_index_stands_in_a_file, partitions_are_the_pairs,
 };
 use sst_meta::{
     a_file_loads_as_it_says, a_footer_is_read, a_footer_reads_back, a_meta_fault_is_shown,
@@ -36,6 +36,7 @@ fn of_an_index(_rt: HostRuntime) {
     a_separator_ends();
     an_index_block_says_its_pairs();
     an_index_says_its_pairs();
+    an_index_stands_in_a_file();
     partitions_are_the_pairs();
 }
 

@@ -4,4 +4,4 @@ use Rattle.sst_bbt_write.proofs.bbt_writer.BbtWriter.new.Goals as goal
 
 pub returns : goal.returns
 returns c =
-    after-none _ _ refl c.requires refl c.in_ok-data_block.ensures refl c.in_ok-index_block.ensures refl refl c.new.ensures.items refl refl refl refl
+    after-none _ _ refl c.requires refl c.in_ok-data_block.ensures refl c.in_ok-new.ensures.holds refl refl c.new-2.ensures.items refl refl refl refl
