@@ -1,7 +1,11 @@
 //! The laws take no value and answer none: that they can be called is all that a test can show.
 use sst_bbt_spec::{
-    a_file_stands_for_one_list, a_file_that_stands_is_separated, a_key_between_separates,
-    a_separated_file_stands, the_way_is_the_lists, what_a_file_stands_for_is_ordered,
+    a_fault_ends_the_way, a_file_stands_for_one_list, a_key_between_separates,
+    a_separated_file_stands, a_way_without_a_fault_is_counted, a_whole_index_is_parts_of_one_block,
+    each_way_ends_at_the_entry_of_the_list, parts_are_found_where_they_lead,
+    places_and_numbers_tell_each_other, separators_before_a_target_come_first, the_tree_decides,
+    the_way_is_the_lists, the_way_over_parts_is_the_lists, user_keys_are_compared_alone,
+    what_a_file_stands_for_is_ordered,
 };
 use sst_block::{
     a_block_has_one_list_of_rows, chosen_block_stands_for_its_rows, each_group_begins_whole,
@@ -52,8 +56,21 @@ fn of_what_a_file_says(_rt: HostRuntime) {
 fn of_what_a_file_stands_for(_rt: HostRuntime) {
     the_way_is_the_lists();
     what_a_file_stands_for_is_ordered();
-    a_file_that_stands_is_separated();
     a_separated_file_stands();
     a_key_between_separates();
     a_file_stands_for_one_list();
+    a_whole_index_is_parts_of_one_block();
+}
+
+#[test]
+fn of_ways_over_parts(_rt: HostRuntime) {
+    the_way_over_parts_is_the_lists();
+    user_keys_are_compared_alone();
+    separators_before_a_target_come_first();
+    the_tree_decides();
+    a_way_without_a_fault_is_counted();
+    each_way_ends_at_the_entry_of_the_list();
+    a_fault_ends_the_way();
+    places_and_numbers_tell_each_other();
+    parts_are_found_where_they_lead();
 }

@@ -1,17 +1,18 @@
-//! Calls answered from written files, of one data block and of many, as a plain count over their list answers them.
+//! Calls answered from written files, of one data block and of many, with each form of the index, as a plain count over their
+//! list answers them.
 //!
-//! The count is [`sst_key::answer`], which goes through the whole list at each call. The list has several versions of
-//! most user keys, and the calls have every target around them.
+//! The count is [`sst_key::answer`], which goes through the whole list at each call. One list has several versions of most
+//! user keys, and one has one version of each; the calls have every target around them.
 //!
 //! RocksDB: `DB::Get` in include/rocksdb/db.h and `Iterator` in include/rocksdb/iterator.h.
 use sst_key::{Answer, Call, Entry, Format, Kind, Reply, Target, answer};
 use sst_num::Bytes;
 use sst_tests_shared::asserting::assert_answered;
-use sst_tests_shared::worked_run::file_in_blocks;
+use sst_tests_shared::worked_run::file_with_options;
 use std::alloc::Global;
 use std::test::Fail;
 
-/// User keys in order: the digits and the bytes of each. The list has none of the last but one.
+/// User keys in order: the digits and the bytes of each. The lists have none of the last but one.
 static USERS: [(&str, &[u8]); 13] = [
     ("-", &[]),
     ("00", &[0x00]),
@@ -28,7 +29,7 @@ static USERS: [(&str, &[u8]); 13] = [
     ("ffff", &[0xff, 0xff]),
 ];
 
-/// The user key of which the list has no entry.
+/// The user key of which the lists have no entry.
 const ABSENT: usize = 11;
 
 /// Versions of a user key, the newest first: the sequence number, the kind and its letter.
@@ -50,39 +51,56 @@ struct Listed {
     lines: Vec<String>,
 }
 
-/// Appends an entry whose value is a byte.
+/// The digits of a value of so many equal bytes.
+fn digits_of(alloc: Global, byte: u8, length: usize) -> Result<String, Fail> {
+    let pair = format!(in alloc; "{byte:02x}")?;
+    let mut digits = String::new(alloc);
+    for _ in 0..length {
+        digits.push_str(&pair)?;
+    }
+    Ok(digits)
+}
+
+/// Appends an entry whose value is so many equal bytes.
 fn add(
     alloc: Global,
     listed: &mut Listed,
     user: (&str, &[u8]),
     version: (u64, Kind, char),
-    value: u8,
+    value: (u8, usize),
 ) -> Result<(), Fail> {
-    let (digits, user) = user;
+    let (user_digits, user) = user;
     let (seq, kind, letter) = version;
-    let line = format!(in alloc; "{digits} {seq} {letter} {value:02x}\n")?;
+    let (byte, length) = value;
+    let value_digits = digits_of(alloc, byte, length)?;
+    let line = format!(in alloc; "{user_digits} {seq} {letter} {value_digits}\n")?;
     listed.lines.push(line)?;
+    let value = vec![in alloc; byte; length]?;
     listed.entries.push(Entry {
         user: Bytes::from_slice(alloc, user)?,
         seq,
         kind,
-        value: Bytes::from_slice(alloc, &[value])?,
+        value: Bytes::from_slice(alloc, &value)?,
     })?;
     Ok(())
 }
 
-/// The list: of each user key but one, two in three of the versions, in turn.
-fn mixed_list(alloc: Global) -> Result<Listed, Fail> {
+/// A list: of each user key but one, two in three of these versions, in turn, with values of so many bytes.
+fn mixed_list(
+    alloc: Global,
+    versions: &[(u64, Kind, char)],
+    length: usize,
+) -> Result<Listed, Fail> {
     let mut listed = Listed {
         entries: Vec::new(alloc),
         lines: Vec::new(alloc),
     };
     let mut value = 0u8;
     for (i, user) in USERS.iter().enumerate() {
-        for version in VERSIONS {
+        for version in versions {
             value = value.wrapping_add(1);
             if i != ABSENT && value % 3 != 0 {
-                add(alloc, &mut listed, *user, version, value)?;
+                add(alloc, &mut listed, *user, *version, (value, length))?;
             }
         }
     }
@@ -157,21 +175,6 @@ fn joined(alloc: Global, lines: &[String]) -> Result<String, Fail> {
     Ok(text)
 }
 
-/// Asserts that the calls are answered so from the file of the list in one data block, and in many.
-fn assert_in_blocks(alloc: Global, lines: &str, calls: &str, text: &str) -> Result<(), Fail> {
-    for option in [
-        "block=64",
-        "block=65",
-        "block=100",
-        "block=200",
-        "block=4096",
-    ] {
-        let file = file_in_blocks(alloc, option, lines)?;
-        assert_answered(alloc, &file, calls, text)?;
-    }
-    Ok(())
-}
-
 /// Appends the steps over the whole list, there and back, and their lines.
 fn put_steps(calls: &mut String, steps: &mut Vec<Call>) -> Result<(), Fail> {
     calls.push_str("first\n")?;
@@ -189,22 +192,65 @@ fn put_steps(calls: &mut String, steps: &mut Vec<Call>) -> Result<(), Fail> {
     Ok(())
 }
 
-#[test]
-fn every_target_and_every_step(rt: HostRuntime) -> Result<(), Fail> {
-    let listed = mixed_list(rt.alloc())?;
-    assert_eq!(rt; listed.entries.len(), 41);
-    let lines = joined(rt.alloc(), &listed.lines)?;
-    let mut calls = String::new(rt.alloc());
-    let mut text = String::new(rt.alloc());
-    let mut steps = Vec::new(rt.alloc());
+/// Asserts that the calls are answered as by a count from the files of the list that are written with these options.
+fn assert_counted(alloc: Global, listed: &Listed, forms: &[&[&str]]) -> Result<(), Fail> {
+    let lines = joined(alloc, &listed.lines)?;
+    let mut calls = String::new(alloc);
+    let mut text = String::new(alloc);
+    let mut steps = Vec::new(alloc);
     put_steps(&mut calls, &mut steps)?;
-    let mut position = put_answers(&mut text, &listed, &steps, None)?;
+    let mut position = put_answers(&mut text, listed, &steps, None)?;
     for (digits, user) in USERS {
         for seq in SNAPSHOTS {
-            put_calls(rt.alloc(), &mut calls, digits, seq)?;
-            let at_target = calls_at(rt.alloc(), user, seq)?;
-            position = put_answers(&mut text, &listed, &at_target, position)?;
+            put_calls(alloc, &mut calls, digits, seq)?;
+            let at_target = calls_at(alloc, user, seq)?;
+            position = put_answers(&mut text, listed, &at_target, position)?;
         }
     }
-    assert_in_blocks(rt.alloc(), lines.as_str(), calls.as_str(), text.as_str())
+    for options in forms {
+        let file = file_with_options(alloc, options, &lines)?;
+        assert_answered(alloc, &file, &calls, &text)?;
+    }
+    Ok(())
+}
+
+/// Options by which a list is written whose blocks share user keys: in one data block and in many, in each version, with an
+/// index of one block and with parts.
+static SHARING: [&[&str]; 10] = [
+    &["block=64"],
+    &["block=65"],
+    &["block=100"],
+    &["block=200"],
+    &["block=4096"],
+    &["block=64", "version=3"],
+    &["block=64", "version=4", "index-restart=16"],
+    &["block=64", "parts=1"],
+    &["block=65", "parts=3", "version=4", "index-restart=16"],
+    &["block=100", "parts=2", "version=3"],
+];
+
+#[test]
+fn every_target_and_every_step(rt: HostRuntime) -> Result<(), Fail> {
+    let listed = mixed_list(rt.alloc(), &VERSIONS, 1)?;
+    assert_eq!(rt; listed.entries.len(), 41);
+    assert_counted(rt.alloc(), &listed, &SHARING)
+}
+
+/// Options by which a list is written of which no user key has two versions. Two entries make a data block, so that there are
+/// five.
+static APART: [&[&str]; 6] = [
+    &["block=64"],
+    &["block=64", "version=3"],
+    &["block=64", "version=4", "index-restart=16"],
+    &["block=64", "parts=2", "version=3"],
+    &["block=64", "parts=1", "version=4"],
+    &["block=64", "parts=2", "version=4", "index-restart=16"],
+];
+
+// From version 3 on the separators are user keys.
+#[test]
+fn every_target_among_user_keys(rt: HostRuntime) -> Result<(), Fail> {
+    let listed = mixed_list(rt.alloc(), &[VERSIONS[2]], 30)?;
+    assert_eq!(rt; listed.entries.len(), 9);
+    assert_counted(rt.alloc(), &listed, &APART)
 }

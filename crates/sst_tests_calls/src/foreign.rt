@@ -3,6 +3,8 @@
 //! The bytes of the files are those of an independent program, or were written by hand, in hex digits. The answers are
 //! worked by hand from the lists, or, where a separator is before a key of its block, from the index.
 //!
+//! The form of an index is told by the properties alone, whatever the version: that is this project's own.
+//!
 //! RocksDB: `BlockBasedTableIterator` in table/block_based/block_based_table_iterator.cc goes by the index; what other
 //! writers may choose in a block is in table/block_based/block_builder.cc, and which separators in
 //! table/block_based/index_builder.h.
@@ -20,15 +22,20 @@ pub(crate) fn assert_all(
 ) -> Result<(), Fail> {
     let mut file = Vec::new(alloc);
     put_hex(alloc, &mut file, pieces)?;
+    assert_rows(alloc, &file, rows)
+}
+
+/// Asserts that the calls of each row are answered from the file.
+pub(crate) fn assert_rows(alloc: Global, file: &[u8], rows: &[(&str, &str)]) -> Result<(), Fail> {
     for (calls, text) in rows {
-        assert_answered(alloc, &file, calls, text)?;
+        assert_answered(alloc, file, calls, text)?;
     }
     Ok(())
 }
 
 /// Files of the list `616161 9 P 31`, `616161 5 D -`, `616162 3 M 32`, `6162 7 S -`, `6162 1 P 33`, whose keys share a
 /// front of three bytes, two or one.
-static FOREIGN: [&[&str]; 9] = [
+static FOREIGN: [&[&str]; 13] = [
     // No row shares anything, and each stands at a restart; version 3.
     &[
         "000b01616161010900000000000031",
@@ -209,6 +216,138 @@ static FOREIGN: [&[&str]; 9] = [
         "00d1c1ac18",
         "0100086d27",
         "00000000000000000000000000000000000000000000000000000000000000000000000002000000f7cff485b741e288",
+    ],
+    // User keys as separators of three blocks: the first user key itself, one between and one after all. Version 2.
+    &[
+        "000b01616161010900000000000031",
+        "0308000005000000000000",
+        "0000000001000000",
+        "003b4b12f3",
+        "000b01616162020300000000000032",
+        "0000000001000000",
+        "00946419ee",
+        "000a0061620707000000000000",
+        "020801010100000000000033",
+        "0000000001000000",
+        "006a8d591c",
+        "0003026161610022",
+        "000402616162002717",
+        "0001027a4321",
+        "00000000080000001100000003000000",
+        "009922eab7",
+        "001d01726f636b7364622e696e6465782e6b65792e69732e757365722e6b657901",
+        "0000000001000000",
+        "00418c85dc",
+        "001203726f636b7364622e70726f70657274696573950129",
+        "0000000001000000",
+        "0045d646fb",
+        "01c301206927",
+        "000000000000000000000000000000000000000000000000000000000000000000000002000000f7cff485b741e288",
+    ],
+    // A block for each entry. The handles of the index are differences, since all its rows share with the one before. Version 3.
+    &[
+        "000b01616161010900000000000031",
+        "0000000001000000",
+        "00a3cc2c3e",
+        "000b006161610005000000000000",
+        "0000000001000000",
+        "007d6b49f0",
+        "000b01616162020300000000000032",
+        "0000000001000000",
+        "00946419ee",
+        "000a0061620707000000000000",
+        "0000000001000000",
+        "0022042dde",
+        "000a016162010100000000000033",
+        "0000000001000000",
+        "001072c521",
+        "000b61616101090000000000000017",
+        "0308000500000000000001",
+        "020962020300000000000002",
+        "010962070700000000000003",
+        "0208010100000000000002",
+        "0000000001000000",
+        "0046243aa9",
+        "002401726f636b7364622e696e6465782e76616c75652e69732e64656c74612e656e636f64656401",
+        "0000000001000000",
+        "00593b0184",
+        "001203726f636b7364622e70726f70657274696573d20130",
+        "0000000001000000",
+        "00d3f996ee",
+        "01870220880145",
+        "0000000000000000000000000000000000000000000000000000000000000000000003000000f7cff485b741e288",
+    ],
+    // An index of two levels. The blocks stand in falling order, and the top block before its first part, with four bytes of no
+    // block between; the separators of the top block are greater than those of its parts, and have no kind that an entry has.
+    // Version 4.
+    &[
+        "000a0061620707000000000000",
+        "020801010100000000000033",
+        "0000000001000000",
+        "006a8d591c",
+        "000b01616162020300000000000032",
+        "0000000001000000",
+        "00946419ee",
+        "000a02616201010000000000000021",
+        "0000000001000000",
+        "0017671230",
+        "000b01616161010900000000000031",
+        "0308000005000000000000",
+        "0000000001000000",
+        "003b4b12f3",
+        "000b036161620900000000000000b60128",
+        "000a02ffff09010000000000004217",
+        "0000000001000000",
+        "00c18ddbd2",
+        "deadbeef",
+        "000b0261616100050000000000005e22",
+        "000b0261616202030000000000002617",
+        "0000000001000000",
+        "00aae21f65",
+        "002404726f636b7364622e626c6f636b2e62617365642e7461626c652e696e6465782e7479706502000000",
+        "0000000001000000",
+        "00396ffc04",
+        "001203726f636b7364622e70726f70657274696573e30133",
+        "0000000001000000",
+        "009975a562",
+        "019b0220850128",
+        "0000000000000000000000000000000000000000000000000000000000000000000004000000f7cff485b741e288",
+    ],
+    // All of these: parts of two rows and of one, whose first has a restart at each row and whole handles; in the top block the
+    // second handle is a difference. Version 2.
+    &[
+        "000b01616161010900000000000031",
+        "0308000005000000000000",
+        "0000000001000000",
+        "003b4b12f3",
+        "000b01616162020300000000000032",
+        "0000000001000000",
+        "00946419ee",
+        "000a0061620707000000000000",
+        "020801010100000000000033",
+        "0000000001000000",
+        "006a8d591c",
+        "00036161610022",
+        "0004616162002717",
+        "000000000700000002000000",
+        "0048442489",
+        "00036162ff4321",
+        "0000000001000000",
+        "0009ec11b0",
+        "000461616200691b",
+        "010262ff17",
+        "0000000001000000",
+        "00d51e1900",
+        "002404726f636b7364622e626c6f636b2e62617365642e7461626c652e696e6465782e7479706502000000",
+        "001d01726f636b7364622e696e6465782e6b65792e69732e757365722e6b657901",
+        "002401726f636b7364622e696e6465782e76616c75652e69732e64656c74612e656e636f64656401",
+        "0000000001000000",
+        "007b004061",
+        "001203726f636b7364622e70726f70657274696573b7017c",
+        "0000000001000000",
+        "00e7e59a55",
+        "01b802209d0115",
+        "0000000000000000000000000000000000000000000000000000000000000000000002000000f7cff485b741e288",
     ],
 ];
 

@@ -10,6 +10,7 @@
 //! - [`lists`]: answers from files that were written here.
 //! - [`foreign`]: answers from files of another writer.
 //! - [`separators`]: answers by the index, where it isn't the list's.
+//! - [`parts`]: the same where the index is in parts, or has user keys.
 //! - [`counted`]: answers at every target, as a plain count over the list gives them.
 //! - [`other_names`]: files with names and properties that a reader passes by.
 //! - [`questions`]: one Get, all entries or those that a snapshot sees, asked for by words.
@@ -29,6 +30,8 @@ mod lists;
 mod other_names;
 #[cfg(test)]
 mod outside;
+#[cfg(test)]
+mod parts;
 #[cfg(test)]
 mod questions;
 #[cfg(test)]

@@ -11,7 +11,7 @@ use std::test::Fail;
 
 /// Files with good properties, in the order of their names, or with a metaindex of other names: with or without the
 /// properties of 8 bytes at 53.
-static GOOD: [Named; 18] = [
+static GOOD: [Named; 21] = [
     // None.
     Named::Properties(&[]),
     // Indexes of the types 0 and 1.
@@ -31,6 +31,28 @@ static GOOD: [Named; 18] = [
     // Flags that aren't set.
     Named::Properties(&[(USER_KEY, "00")]),
     Named::Properties(&[(USER_KEY, "00"), (DELTA, "00")]),
+    // An index whose key is a user key of nine bytes; one whose handle is told without its length; and a top block of one
+    // part, which stands behind it.
+    Named::Properties(&[(USER_KEY, "01")]),
+    Named::Blocks(
+        &[
+            DATA,
+            "00096101010000000000000015",
+            ONE_RESTART,
+            "00bf0ff45e",
+        ],
+        (26, 21),
+        &[(DELTA, "01")],
+    ),
+    Named::Index(
+        &[
+            "0009026101010000000000003516",
+            ONE_RESTART,
+            "00a58c2990",
+            INDEX,
+        ],
+        &[(INDEX_TYPE, "02000000")],
+    ),
     // Names that nobody looks at: the empty one, one before all others, one that begins with another.
     Named::Properties(&[("", ""), ("a", "ff"), ("rocksdb.comparators", "00")]),
     Named::Names(&[]),

@@ -7,7 +7,7 @@
 use crate::separators::ONE_BLOCK_TWICE;
 use sst_cli::Status;
 use sst_tests_shared::asserting::assert_told;
-use sst_tests_shared::worked_run::{NAME, file_in_blocks, file_of_lines, put_hex};
+use sst_tests_shared::worked_run::{NAME, file_of_lines, file_with_options, put_hex, text_of};
 use std::alloc::Global;
 use std::test::Fail;
 
@@ -20,6 +20,12 @@ const MIDDLE: &str =
 
 const OLDEST: &str =
     "6b 2 P 323232323232323232323232323232323232323232323232323232323232323232323232323232323232323232323232323232323232323232323232\n";
+
+/// Options by which the file of the versions is written: with an index of one block, and with one in parts.
+static FORMS: [&[&str]; 2] = [
+    &["block=64"],
+    &["block=64", "version=4", "parts=2", "index-restart=16"],
+];
 
 /// What is asked of the file of the versions, and the lines that are printed.
 static OF_VERSIONS: [(&[&str], &[&str]); 13] = [
@@ -218,15 +224,6 @@ static OF_LISTS: [(&str, &[&str], Status, &str); 37] = [
     ),
 ];
 
-/// The pieces as one text.
-fn text_of(alloc: Global, pieces: &[&str]) -> Result<String, Fail> {
-    let mut text = String::new(alloc);
-    for piece in pieces {
-        text.push_str(piece)?;
-    }
-    Ok(text)
-}
-
 /// What is asked of a file of one block to which the index leads twice: how many bytes are missing at its end, the words, the
 /// status, and the text. Of a walk that shows an entry twice a snapshot sees it once.
 static OF_ONE_BLOCK_TWICE: [(usize, &[&str], Status, &str); 6] = [
@@ -247,10 +244,12 @@ static OF_ONE_BLOCK_TWICE: [(usize, &[&str], Status, &str); 6] = [
 #[test]
 fn questions_on_versions(rt: HostRuntime) -> Result<(), Fail> {
     let lines = text_of(rt.alloc(), &[NEWEST, MIDDLE, OLDEST])?;
-    let file = file_in_blocks(rt.alloc(), "block=64", &lines)?;
-    for (words, pieces) in OF_VERSIONS {
-        let text = text_of(rt.alloc(), pieces)?;
-        assert_told(rt.alloc(), &file, words, Status::Done, &text)?;
+    for options in FORMS {
+        let file = file_with_options(rt.alloc(), options, &lines)?;
+        for (words, pieces) in OF_VERSIONS {
+            let text = text_of(rt.alloc(), pieces)?;
+            assert_told(rt.alloc(), &file, words, Status::Done, &text)?;
+        }
     }
     Ok(())
 }

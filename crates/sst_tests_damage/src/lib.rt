@@ -9,7 +9,8 @@
 //! checksums are those of an independent program, never of this one.
 //!
 //! - [`damaged`]: files whose footer is damaged, or a block.
-//! - [`named`]: files whose metaindex or properties are damaged, or of a form that isn't read yet.
+//! - [`named`]: files whose metaindex or properties are damaged, or with a mark that isn't read yet.
+//! - [`parts`]: files whose index is in parts, or of another form, and is damaged.
 //! - [`large`]: blocks and keys past their limits. These files take a gigabyte of memory.
 //! - [`long_file`]: a file past its limit, which is said and not made.
 //! - [`texts`]: the texts of other damages.
@@ -23,5 +24,7 @@ mod large;
 mod long_file;
 #[cfg(test)]
 mod named;
+#[cfg(test)]
+mod parts;
 #[cfg(test)]
 mod texts;

@@ -1,4 +1,4 @@
-//! Damages of what a file says of itself: of its metaindex and its properties; and forms that aren't read yet.
+//! Damages of what a file says of itself: of its metaindex and its properties; and marks that aren't read yet.
 //!
 //! The files are those of [`sst_tests_shared::named_file`]; the damages are worked by hand and told by an independent
 //! program. Each damage of a property is tested by itself, and the order of them all, in `sst_tests_blocks`.
@@ -21,7 +21,7 @@ use std::test::Fail;
 const BAD_INDEX: &str = "0009026101010000000000000015000000000100000000deadbeef";
 
 /// Files, and what is told of them.
-static NAMED: [(Named, &str); 26] = [
+static NAMED: [(Named, &str); 25] = [
     // Tombstones of ranges, before the properties.
     (Named::Names(&[(RANGE_DEL, "")]), "range-tombstones"),
     (
@@ -90,18 +90,31 @@ static NAMED: [(Named, &str); 26] = [
         Named::Properties(&[(DELTA, "80")]),
         "property rocksdb.index.value.is.delta.encoded",
     ),
-    // An index of two levels, with user keys, with differences of handles; a sequence number for all entries.
-    (Named::Properties(&[(INDEX_TYPE, "02000000")]), "not-yet"),
-    (Named::Properties(&[(USER_KEY, "01")]), "not-yet"),
-    (Named::Properties(&[(DELTA, "01")]), "not-yet"),
+    // A sequence number for all entries, which isn't read yet; and the same before a bad index of another form.
     (
         Named::Properties(&[(GLOBAL, "0000000000000000"), (EXTERNAL, "02000000")]),
         "not-yet",
     ),
-    // A form that isn't read yet before a bad index; good properties: then comes the index.
-    (Named::Index(&[BAD_INDEX], &[(USER_KEY, "01")]), "not-yet"),
+    (
+        Named::Index(
+            &[BAD_INDEX],
+            &[
+                (GLOBAL, "0000000000000000"),
+                (EXTERNAL, "02000000"),
+                (USER_KEY, "01"),
+            ],
+        ),
+        "not-yet",
+    ),
+    // Differences of handles where they are told whole.
+    (Named::Properties(&[(DELTA, "01")]), "row 26 13"),
+    // Good properties: then comes the index.
     (
         Named::Index(&[BAD_INDEX], &[(INDEX_TYPE, "01000000")]),
+        "checksum 26 22",
+    ),
+    (
+        Named::Index(&[BAD_INDEX], &[(USER_KEY, "01")]),
         "checksum 26 22",
     ),
 ];

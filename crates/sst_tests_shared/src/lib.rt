@@ -13,7 +13,8 @@
 //! - [`worked_run`]: a run, with no call outside that fails or with some, and what it left.
 //! - [`asserting`]: what a run has to come to.
 //! - [`small_file`]: the file of one entry without properties, and its parts.
-//! - [`named_file`]: files of that entry with chosen properties, or with chosen names in the metaindex.
+//! - [`named_file`]: files of that entry with chosen properties, or with chosen names in the metaindex, and files of any
+//!   blocks with chosen properties.
 //!
 //! No function here has a clause: their callers are tests, which compare what comes of them.
 #![tactic(auto)]

@@ -1,6 +1,7 @@
-//! Files of the line `61 1 P 78` with chosen properties, or with chosen names in the metaindex.
+//! Files of the line `61 1 P 78` with chosen properties, or with chosen names in the metaindex; and files of any blocks with
+//! chosen properties.
 //!
-//! Each begins with the data block of 21 bytes at 0 and the index of 22 at 26. The block of properties stands at 53, the
+//! Each of the first begins with the data block of 21 bytes at 0 and the index of 22 at 26. The block of properties stands at 53, the
 //! metaindex behind it, and then the footer. No name shares bytes with the one before it, and the first alone stands at
 //! a restart point, as another writer than this library's may make them. Blocks are stored by [`sst_device::put_frame`]
 //! and footers put by [`sst_meta::put_footer`], whose bytes the tests of blocks hold against worked ones.
@@ -65,32 +66,32 @@ pub fn names_block(alloc: Global, pairs: &[(&str, &str)]) -> Result<Vec<u8>, Fai
     Ok(block)
 }
 
-/// Appends a footer of version 2 that leads to this metaindex.
-fn put_end(file: &mut Vec<u8>, metaindex: Handle) -> Result<(), Fail> {
+/// Appends a footer of version 2 that leads to this metaindex and this index.
+fn put_end(file: &mut Vec<u8>, metaindex: Handle, index: Handle) -> Result<(), Fail> {
     let footer = Footer {
         format: Format::Block,
         legacy: false,
         version: 2,
         checksum: 1,
         meta: metaindex,
-        index: INDEX_HANDLE,
+        index,
     };
     put_footer(file, &footer)?;
     Ok(())
 }
 
-/// Appends a metaindex with these rows, told as a block, and a footer that leads to it.
-fn put_metaindex(file: &mut Vec<u8>, block: &[u8]) -> Result<(), Fail> {
+/// Appends a metaindex with these rows, told as a block, and a footer that leads to it and to this index.
+fn put_metaindex(file: &mut Vec<u8>, block: &[u8], index: Handle) -> Result<(), Fail> {
     let metaindex = Handle {
         offset: file.len() as u64,
         size: block.len() as u64,
     };
     put_frame(file, block)?;
-    put_end(file, metaindex)
+    put_end(file, metaindex, index)
 }
 
-/// Appends a block of properties, the metaindex that leads to it, and the footer.
-fn put_named(alloc: Global, file: &mut Vec<u8>, block: &[u8]) -> Result<(), Fail> {
+/// Appends a block of properties, the metaindex that leads to it, and the footer, which leads to this index.
+fn put_named(alloc: Global, file: &mut Vec<u8>, block: &[u8], index: Handle) -> Result<(), Fail> {
     let properties = Handle {
         offset: file.len() as u64,
         size: block.len() as u64,
@@ -105,7 +106,7 @@ fn put_named(alloc: Global, file: &mut Vec<u8>, block: &[u8]) -> Result<(), Fail
     metaindex.extend_from_slice(PROPERTIES.as_bytes())?;
     metaindex.extend_from_slice(&value)?;
     put_hex(alloc, &mut metaindex, &[ONE_RESTART])?;
-    put_metaindex(file, &metaindex)
+    put_metaindex(file, &metaindex, index)
 }
 
 /// The file with these properties.
@@ -119,7 +120,22 @@ fn file_with_index(alloc: Global, index: &[&str], pairs: &[(&str, &str)]) -> Res
     put_hex(alloc, &mut file, &[DATA])?;
     put_hex(alloc, &mut file, index)?;
     let block = names_block(alloc, pairs)?;
-    put_named(alloc, &mut file, &block)?;
+    put_named(alloc, &mut file, &block, INDEX_HANDLE)?;
+    Ok(file)
+}
+
+/// The file of these blocks and their trailers, with these properties; the index stands at an offset and has a size.
+fn file_of_blocks(
+    alloc: Global,
+    blocks: &[&str],
+    index: (u64, u64),
+    pairs: &[(&str, &str)],
+) -> Result<Vec<u8>, Fail> {
+    let mut file = Vec::new(alloc);
+    put_hex(alloc, &mut file, blocks)?;
+    let block = names_block(alloc, pairs)?;
+    let (offset, size) = index;
+    put_named(alloc, &mut file, &block, Handle { offset, size })?;
     Ok(file)
 }
 
@@ -129,7 +145,7 @@ fn file_with_block(alloc: Global, pieces: &[&str]) -> Result<Vec<u8>, Fail> {
     put_hex(alloc, &mut file, &[DATA, INDEX])?;
     let mut block = Vec::new(alloc);
     put_hex(alloc, &mut block, pieces)?;
-    put_named(alloc, &mut file, &block)?;
+    put_named(alloc, &mut file, &block, INDEX_HANDLE)?;
     Ok(file)
 }
 
@@ -138,11 +154,11 @@ fn file_with_names(alloc: Global, pairs: &[(&str, &str)]) -> Result<Vec<u8>, Fai
     let mut file = Vec::new(alloc);
     put_hex(alloc, &mut file, &[DATA, INDEX])?;
     put_frame(&mut file, &names_block(alloc, &[])?)?;
-    put_metaindex(&mut file, &names_block(alloc, pairs)?)?;
+    put_metaindex(&mut file, &names_block(alloc, pairs)?, INDEX_HANDLE)?;
     Ok(file)
 }
 
-/// A file of the line `61 1 P 78`, by what it says of itself.
+/// A file by what it says of itself; of the line `61 1 P 78` but for the last.
 #[derive(Clone, Copy)]
 pub enum Named {
     /// With these properties.
@@ -153,6 +169,8 @@ pub enum Named {
     Block(&'static [&'static str]),
     /// Whose metaindex has these names.
     Names(&'static [(&'static str, &'static str)]),
+    /// Of these blocks and their trailers, whose index stands at this offset and has this size, with these properties.
+    Blocks(&'static [&'static str], (u64, u64), &'static [(&'static str, &'static str)]),
 }
 
 /// The bytes of the file.
@@ -162,5 +180,6 @@ pub fn file_named(alloc: Global, named: Named) -> Result<Vec<u8>, Fail> {
         Named::Index(index, pairs) => file_with_index(alloc, index, pairs),
         Named::Block(pieces) => file_with_block(alloc, pieces),
         Named::Names(pairs) => file_with_names(alloc, pairs),
+        Named::Blocks(blocks, index, pairs) => file_of_blocks(alloc, blocks, index, pairs),
     }
 }

@@ -92,9 +92,12 @@ pub fn written(alloc: Global, input: &[u8]) -> Result<Ran, Fail> {
     run_on(alloc, &WORDS, input, NONE_FAILS)
 }
 
-/// Runs the command that writes a file with this option.
-pub fn written_with(alloc: Global, option: &str, input: &[u8]) -> Result<Ran, Fail> {
-    run_on(alloc, &["write", "block", NAME, option], input, NONE_FAILS)
+/// Runs the command that writes a file with these options.
+pub fn written_with(alloc: Global, options: &[&str], input: &[u8]) -> Result<Ran, Fail> {
+    let mut words = Vec::new(alloc);
+    words.extend_from_slice(&WORDS)?;
+    words.extend_from_slice(options)?;
+    run_on(alloc, &words, input, NONE_FAILS)
 }
 
 /// The file that a run left, or no byte where it left none.
@@ -111,9 +114,9 @@ pub fn file_of_lines(alloc: Global, lines: &str) -> Result<Vec<u8>, Fail> {
     file_left(alloc, &ran)
 }
 
-/// The file that is written for these lines with this option.
-pub fn file_in_blocks(alloc: Global, option: &str, lines: &str) -> Result<Vec<u8>, Fail> {
-    let ran = written_with(alloc, option, lines.as_bytes())?;
+/// The file that is written for these lines with these options.
+pub fn file_with_options(alloc: Global, options: &[&str], lines: &str) -> Result<Vec<u8>, Fail> {
+    let ran = written_with(alloc, options, lines.as_bytes())?;
     file_left(alloc, &ran)
 }
 
@@ -179,6 +182,15 @@ fn run_over(
         intake,
         sink,
     })
+}
+
+/// The pieces as one text.
+pub fn text_of(alloc: Global, pieces: &[&str]) -> Result<String, Fail> {
+    let mut text = String::new(alloc);
+    for piece in pieces {
+        text.push_str(piece)?;
+    }
+    Ok(text)
 }
 
 /// Appends the bytes that hex digits spell.

@@ -5,28 +5,32 @@
 //!
 //! RocksDB: `BlockBuilder` in table/block_based/block_builder.cc (a restart at each 16 rows), `InternalKeyComparator`
 //! in db/dbformat.h, `FooterBuilder::Build` in table/format.cc.
-use crate::written_file::{Behind, put_behind};
+use crate::written_file::{Behind, PLAIN, put_behind};
 use sst_cli::Status;
 use sst_tests_shared::small_file::ONE_RESTART;
 use sst_tests_shared::worked_run::{
-    NAME, Ran, holds, other_is_as_it_was, printed, put_hex, written,
+    NAME, Ran, holds, other_is_as_it_was, printed, put_hex, text_of, written, written_with,
 };
 use std::alloc::Global;
 use std::process::Abort;
 use std::test::Fail;
 
 /// Lines, and the file that is written for them.
-struct Written {
-    /// The lines.
-    lines: &'static str,
+pub(crate) struct Written {
+    /// The options.
+    pub(crate) options: &'static [&'static str],
+    /// The lines, in pieces.
+    pub(crate) lines: &'static [&'static str],
     /// What is printed.
-    text: &'static str,
+    pub(crate) text: &'static str,
     /// The length of the file.
-    length: usize,
-    /// The file up to the end of the index, in hex digits.
-    front: &'static [&'static str],
+    pub(crate) length: usize,
+    /// The data blocks with their trailers, in hex digits.
+    pub(crate) data: &'static [&'static str],
+    /// The blocks of the index with theirs.
+    pub(crate) index: &'static [&'static str],
     /// What stands after it.
-    behind: Behind,
+    pub(crate) behind: Behind,
 }
 
 /// Lists of one entry, of none, and of three versions of one key.
@@ -34,18 +38,14 @@ static FILES: [Written; 5] = [
     // The index block stands at 26, and ends with its trailer at 53; the properties of 254 bytes at 53, the metaindex of 32 at
     // 312, and the footer at 349.
     Written {
-        lines: "61 1 P 78\n",
+        options: &[],
+        lines: &["61 1 P 78\n"],
         text: "wrote 1\n",
         length: 402,
-        front: &[
-            "00090161010100000000000078",
-            ONE_RESTART,
-            "0084dd8874",
-            "0009026101010000000000000015",
-            ONE_RESTART,
-            "00364925bf",
-        ],
+        data: &["00090161010100000000000078", ONE_RESTART, "0084dd8874"],
+        index: &["0009026101010000000000000015", ONE_RESTART, "00364925bf"],
         behind: Behind {
+            form: PLAIN,
             data_size: "1a",
             index_size: "1b",
             blocks: "01",
@@ -60,18 +60,14 @@ static FILES: [Written; 5] = [
     },
     // The empty key, and digits of either case. The index has 21 bytes, and each block after it is a byte nearer.
     Written {
-        lines: "- 1 P AbCd\n",
+        options: &[],
+        lines: &["- 1 P AbCd\n"],
         text: "wrote 1\n",
         length: 401,
-        front: &[
-            "0008020101000000000000abcd",
-            ONE_RESTART,
-            "002c2919da",
-            "00080201010000000000000015",
-            ONE_RESTART,
-            "00aba956c1",
-        ],
+        data: &["0008020101000000000000abcd", ONE_RESTART, "002c2919da"],
+        index: &["00080201010000000000000015", ONE_RESTART, "00aba956c1"],
         behind: Behind {
+            form: PLAIN,
             data_size: "1a",
             index_size: "1a",
             blocks: "01",
@@ -86,18 +82,14 @@ static FILES: [Written; 5] = [
     },
     // The last sequence number. The properties don't tell it.
     Written {
-        lines: "61 72057594037927935 P 78\n",
+        options: &[],
+        lines: &["61 72057594037927935 P 78\n"],
         text: "wrote 1\n",
         length: 402,
-        front: &[
-            "0009016101ffffffffffffff78",
-            ONE_RESTART,
-            "00e63dcbad",
-            "0009026101ffffffffffffff0015",
-            ONE_RESTART,
-            "0003416abd",
-        ],
+        data: &["0009016101ffffffffffffff78", ONE_RESTART, "00e63dcbad"],
+        index: &["0009026101ffffffffffffff0015", ONE_RESTART, "0003416abd"],
         behind: Behind {
+            form: PLAIN,
             data_size: "1a",
             index_size: "1b",
             blocks: "01",
@@ -112,11 +104,14 @@ static FILES: [Written; 5] = [
     },
     // The empty list: the index, at 0, has no row. The properties of 254 bytes at 13, and the metaindex of 32 at 272.
     Written {
-        lines: "",
+        options: &[],
+        lines: &[],
         text: "wrote 0\n",
         length: 362,
-        front: &["0000000001000000", "00c0f2a1b0"],
+        data: &[],
+        index: &["0000000001000000", "00c0f2a1b0"],
         behind: Behind {
+            form: PLAIN,
             data_size: "00",
             index_size: "0d",
             blocks: "00",
@@ -133,19 +128,20 @@ static FILES: [Written; 5] = [
     // next. The index is at 50: one row, with the last key and the handle of the data block (0, 45). The properties of 254
     // bytes at 77, and the metaindex of 32 at 336.
     Written {
-        lines: "6b 9 P 31\n6b 5 D 32\n6b 2 M 33\n",
+        options: &[],
+        lines: &["6b 9 P 31\n6b 5 D 32\n6b 2 M 33\n"],
         text: "wrote 3\n",
         length: 426,
-        front: &[
+        data: &[
             "0009016b010900000000000031",
             "010801000500000000000032",
             "010801020200000000000033",
             "0000000001000000",
             "00d1fab33f",
-            "0009026b0202000000000000002d0000000001000000",
-            "002ad41c73",
         ],
+        index: &["0009026b0202000000000000002d0000000001000000", "002ad41c73"],
         behind: Behind {
+            form: PLAIN,
             data_size: "32",
             index_size: "1b",
             blocks: "01",
@@ -163,7 +159,8 @@ static FILES: [Written; 5] = [
 /// The file of a row.
 fn file_of(alloc: Global, row: &Written) -> Result<Vec<u8>, Fail> {
     let mut file = Vec::new(alloc);
-    put_hex(alloc, &mut file, row.front)?;
+    put_hex(alloc, &mut file, row.data)?;
+    put_hex(alloc, &mut file, row.index)?;
     put_behind(alloc, &mut file, &row.behind)?;
     Ok(file)
 }
@@ -173,23 +170,30 @@ pub(crate) fn written_file(alloc: Global) -> Result<Vec<u8>, Fail> {
     file_of(alloc, &FILES[0])
 }
 
-/// Asserts that the command wrote this file, and printed this.
-fn assert_wrote(rt: &impl Abort, ran: &Ran, file: &[u8], text: &str) {
-    assert_eq!(rt; ran.status, Status::Done, "where {text}");
-    assert!(rt; printed(ran, text), "where {text}");
-    assert!(rt; holds(ran, NAME, file), "where {text}");
-    assert!(rt; other_is_as_it_was(ran), "where {text}");
+/// Asserts that the command wrote this file with these options, and printed this.
+pub(crate) fn assert_wrote(rt: &impl Abort, ran: &Ran, file: &[u8], text: &str, options: &[&str]) {
+    assert_eq!(rt; ran.status, Status::Done, "where {text} with {options:?}");
+    assert!(rt; printed(ran, text), "where {text} with {options:?}");
+    assert!(rt; holds(ran, NAME, file), "where {text} with {options:?}");
+    assert!(rt; other_is_as_it_was(ran), "where {text} with {options:?}");
+}
+
+/// Asserts that the file of each row is written for its lines.
+pub(crate) fn assert_files(rt: &impl Abort, alloc: Global, rows: &[Written]) -> Result<(), Fail> {
+    for row in rows {
+        let file = file_of(alloc, row)?;
+        let options = row.options;
+        assert_eq!(rt; file.len(), row.length, "with {options:?}");
+        let lines = text_of(alloc, row.lines)?;
+        let ran = written_with(alloc, options, lines.as_bytes())?;
+        assert_wrote(rt, &ran, &file, row.text, options);
+    }
+    Ok(())
 }
 
 #[test]
 fn worked_files(rt: HostRuntime) -> Result<(), Fail> {
-    for row in &FILES {
-        let file = file_of(rt.alloc(), row)?;
-        assert_eq!(rt; file.len(), row.length);
-        let ran = written(rt.alloc(), row.lines.as_bytes())?;
-        assert_wrote(&rt, &ran, &file, row.text);
-    }
-    Ok(())
+    assert_files(&rt, rt.alloc(), &FILES)
 }
 
 /// The rows of a list with the keys 6b00, 6b01 and so on. Each shares `k` with the one before it, but for the first, the
@@ -233,51 +237,53 @@ static ROWS: [&str; 33] = [
 /// How many rows there are, what follows them up to the end of the index, and what stands after that.
 static RESTARTS: [(u8, &[&str], Behind, &str); 2] = [
     // Restart points at 0 and 209: the first row has 14 bytes, and the 15 after it have 13. The index block is at 240: one row,
-    // with the last key and the handle of the data block (0, 235). The properties of 256 bytes at 269, since two numbers have
-    // two bytes, and the metaindex of 33 at 530.
+    // with the user key 6c and the greatest tag, and the handle of the data block (0, 235). The properties of 256 bytes at 268,
+    // since two numbers have two bytes, and the metaindex of 33 at 529.
     (
         17,
         &[
             "00000000d100000002000000",
             "00f9cbf476",
-            "000a036b10010100000000000000eb010000000001000000",
-            "00e386670a",
+            "0009036cffffffffffffffff00eb010000000001000000",
+            "00365295f7",
         ],
         Behind {
+            form: PLAIN,
             data_size: "f001",
-            index_size: "1d",
+            index_size: "1c",
             blocks: "01",
             entries: "11",
             key_size: "aa01",
             value_size: "11",
-            checksum: "503049cf",
-            handle: "8d028002",
-            metaindex_checksum: "d6ee3b93",
-            footer: "01920421f00118",
+            checksum: "c019ce9f",
+            handle: "8c028002",
+            metaindex_checksum: "324df622",
+            footer: "01910421f00117",
         },
         "wrote 17\n",
     ),
     // Restart points at 0, 209 and 418, which is twice 209. The index block is at 453, and the handle of the data block
-    // is (0, 448). The properties of 256 bytes at 482, and the metaindex of 33 at 743.
+    // is (0, 448). The properties of 256 bytes at 481, and the metaindex of 33 at 742.
     (
         33,
         &[
             "00000000d1000000a201000003000000",
             "001093e206",
-            "000a036b20010100000000000000c0030000000001000000",
-            "0018ef4a4f",
+            "0009036cffffffffffffffff00c0030000000001000000",
+            "00f501bf57",
         ],
         Behind {
+            form: PLAIN,
             data_size: "c503",
-            index_size: "1d",
+            index_size: "1c",
             blocks: "01",
             entries: "21",
             key_size: "ca02",
             value_size: "21",
-            checksum: "f7f96deb",
-            handle: "e2038002",
-            metaindex_checksum: "57428ca0",
-            footer: "01e70521c50318",
+            checksum: "674fe93b",
+            handle: "e1038002",
+            metaindex_checksum: "6be0da11",
+            footer: "01e60521c50317",
         },
         "wrote 33\n",
     ),
@@ -304,7 +310,7 @@ fn second_and_third_restarts(rt: HostRuntime) -> Result<(), Fail> {
         }
         put_hex(rt.alloc(), &mut file, end)?;
         put_behind(rt.alloc(), &mut file, behind)?;
-        assert_wrote(&rt, &ran, &file, text);
+        assert_wrote(&rt, &ran, &file, text, &[]);
     }
     Ok(())
 }

@@ -5,9 +5,10 @@ use sst_bbt_read::{
 };
 use sst_bbt_write::{a_list_is_cut_where_blocks_are_full, written_file_stands_for_its_list};
 use sst_cli::{
-    a_call_list_reads_back, a_command_is_by_its_words, a_list_reads_back,
-    a_told_world_has_one_outcome, a_written_file_reads_back, what_a_run_comes_to,
-    what_a_text_says_fits, what_a_write_comes_to, what_calls_come_to,
+    a_call_list_reads_back, a_command_is_by_its_words, a_filtered_walk_is_what_is_visible,
+    a_list_reads_back, a_told_world_has_one_outcome, a_written_file_reads_back,
+    what_a_get_comes_to, what_a_run_comes_to, what_a_scan_comes_to, what_a_text_says_fits,
+    what_a_write_comes_to, what_calls_come_to, what_reading_a_file_comes_to,
 };
 use sst_text::{
     a_call_line_is_that_of_its_call, a_call_line_reads_back, an_entry_line_is_that_of_its_entry,
@@ -35,4 +36,8 @@ fn laws(_rt: HostRuntime) {
     what_a_run_comes_to();
     what_a_write_comes_to();
     what_calls_come_to();
+    what_a_get_comes_to();
+    what_a_scan_comes_to();
+    a_filtered_walk_is_what_is_visible();
+    what_reading_a_file_comes_to();
 }

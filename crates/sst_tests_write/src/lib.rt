@@ -12,6 +12,8 @@
 //! - [`files`]: lists written as one block, byte for byte.
 //! - [`written_file`]: what stands after the index of each file that is written.
 //! - [`many_blocks`]: lists written as many data blocks, and answered from.
+//! - [`index_forms`]: lists written with an index of another form, byte for byte.
+//! - [`small_forms`]: the same of one entry and of none.
 //! - [`write_options`]: the options of a `write`.
 //! - [`refused`]: lines that are refused, each for its reason.
 //! - [`limits`]: lines, keys, values and lists at their limits.
@@ -25,6 +27,8 @@
 #[cfg(test)]
 mod files;
 #[cfg(test)]
+mod index_forms;
+#[cfg(test)]
 mod laws;
 #[cfg(test)]
 mod limits;
@@ -34,6 +38,8 @@ mod many_blocks;
 mod outside;
 #[cfg(test)]
 mod refused;
+#[cfg(test)]
+mod small_forms;
 #[cfg(test)]
 mod statuses;
 #[cfg(test)]

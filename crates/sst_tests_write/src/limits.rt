@@ -59,9 +59,11 @@ fn length_of(ran: &Ran) -> Option<usize> {
     Some(file.len())
 }
 
+// The long key isn't in the index, since the key after the list is its first byte raised by one. The lengths are those of an
+// independent program.
 #[test]
 fn keys_and_values_at_their_limits(rt: HostRuntime) -> Result<(), Fail> {
-    for (key_digits, value_digits, length) in [(131_072, 2, 131_486), (2, 33_554_432, 16_777_632)] {
+    for (key_digits, value_digits, length) in [(131_072, 2, 65_947), (2, 33_554_432, 16_777_632)] {
         let ran = written(
             rt.alloc(),
             &line_of(rt.alloc(), "", key_digits, value_digits)?,

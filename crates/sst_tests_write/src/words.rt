@@ -11,7 +11,7 @@ use std::test::Fail;
 const LINE: &str = "61 1 P 78\n";
 
 /// Words that are no command.
-static NO_COMMANDS: [&[&str]; 27] = [
+static NO_COMMANDS: [&[&str]; 32] = [
     &[],
     &["write"],
     &["write", "block"],
@@ -34,11 +34,16 @@ static NO_COMMANDS: [&[&str]; 27] = [
         "restart=1",
         "index-restart=16",
     ],
+    &["write", "block", NAME, "version=3", "version=3"],
+    &["write", "block", NAME, "parts=1", "version=3", "parts=0"],
     // In another place.
     &["write", "block=64", "block", NAME],
+    &["write", "version=3", "block", NAME],
     &["write", "block", "", "block=64"],
     // For another command.
     &["calls", NAME, "block=64"],
+    &["calls", NAME, "version=2"],
+    &["scan", NAME, "parts=0"],
     &["write", "plain", NAME, "block=64"],
     // The words of calls.
     &["calls"],
@@ -53,13 +58,36 @@ static NO_COMMANDS: [&[&str]; 27] = [
 ];
 
 /// Words that are no option.
-static NO_OPTIONS: [&str; 36] = [
+static NO_OPTIONS: [&str; 57] = [
     "restart=0",
     "restart=65537",
     "restart=016",
     "index-restart=0",
     "index-restart=65537",
     "index_restart=1",
+    // Versions that aren't written: one less, one more, 2^32 + 2, 2^64 + 2.
+    "version=0",
+    "version=1",
+    "version=5",
+    "version=02",
+    "version=4294967298",
+    "version=18446744073709551618",
+    "version=",
+    "version=+2",
+    "version=2 ",
+    "Version=2",
+    "versions=2",
+    "format_version=2",
+    // Parts: past the limit by one, 2^32, 2^64 + 1; leading zeros.
+    "parts=65537",
+    "parts=4294967296",
+    "parts=18446744073709551617",
+    "parts=00",
+    "parts=01",
+    "parts=",
+    "parts=-1",
+    "Parts=1",
+    "part=1",
     // Past the limits: by one, by much, 2^32 + 64, 2^64 + 64.
     "block=63",
     "block=0",

@@ -1,13 +1,15 @@
-//! The options of `sst write block OUT`: `block=N`, where N is 64 to 16,777,216, `restart=N` and `index-restart=N`, where N is 1
-//! to 65,536, in any order.
+//! The options of `sst write block OUT`: `version=N`, where N is 2 to 4, `block=N`, where N is 64 to 16,777,216, `restart=N` and
+//! `index-restart=N`, where N is 1 to 65,536, and `parts=N`, where N is 0 to 65,536, in any order.
 //!
-//! The words are this project's own. RocksDB: `BlockBasedTableOptions::block_size`, `block_restart_interval` and
-//! `index_block_restart_interval` in include/rocksdb/table.h.
+//! The words, and a part of so many rows, are this project's own. RocksDB: `BlockBasedTableOptions::format_version`,
+//! `block_size`, `block_restart_interval` and `index_block_restart_interval` in include/rocksdb/table.h.
 use crate::files::written_file;
+use crate::index_forms::THREE_LINES;
 use crate::many_blocks::version_lines;
 use sst_cli::Status;
 use sst_tests_shared::worked_run::{
-    NAME, NONE_FAILS, holds, other_is_as_it_was, printed, put_hex, run_on, still_to_come,
+    NAME, NONE_FAILS, file_with_options, holds, other_is_as_it_was, printed, put_hex, run_on,
+    still_to_come, text_of,
 };
 use std::alloc::Global;
 use std::process::Abort;
@@ -17,7 +19,7 @@ use std::test::Fail;
 const LINE: &str = "61 1 P 78\n";
 
 /// Options that make the same file of one entry.
-static GOOD: [&[&str]; 13] = [
+static GOOD: [&[&str]; 17] = [
     &["block=64"],
     &["block=65"],
     &["block=4096"],
@@ -31,6 +33,22 @@ static GOOD: [&[&str]; 13] = [
     &["block=64", "restart=2", "index-restart=3"],
     &["index-restart=3", "restart=2", "block=64"],
     &["restart=2", "block=64", "index-restart=3"],
+    &["version=2"],
+    &["parts=0"],
+    &[
+        "version=2",
+        "block=64",
+        "restart=2",
+        "index-restart=3",
+        "parts=0",
+    ],
+    &[
+        "parts=0",
+        "index-restart=3",
+        "restart=2",
+        "block=64",
+        "version=2",
+    ],
 ];
 
 // One row makes one block with one restart, whatever the options are.
@@ -79,16 +97,65 @@ static NESTED_PARTS: [Part; 2] = [
     ),
 ];
 
-/// The index block of three versions of the key 6b, each in a block of its own: its rows share what their keys have in common.
-static VERSIONS_PARTS: [Part; 1] = [(
-    &["write", "block", NAME, "block=64", "index-restart=16"],
-    255,
-    &[
-        "0009026b0109000000000000005002070205000000000000555002070302000000000000aa0150",
-        "0000000001000000",
-        "00bdb1b67f",
-    ],
-)];
+/// The index of three versions of the key 6b, each in a block of its own: one block whose rows share what their keys have in
+/// common; and parts of one row, and the top block at 337.
+static VERSIONS_PARTS: [Part; 2] = [
+    (
+        &["write", "block", NAME, "block=64", "index-restart=16"],
+        255,
+        &[
+            "0009026b0109000000000000005002070205000000000000555002070302000000000000aa0150",
+            "0000000001000000",
+            "00bdb1b67f",
+        ],
+    ),
+    (
+        &["write", "block", NAME, "block=64", "parts=1"],
+        255,
+        &[
+            "0009026b01090000000000000050000000000100000000278b37a4",
+            "0009026b010500000000000055500000000001000000000edeee66",
+            "0009036b0102000000000000aa0150000000000100000000a7bf17d9",
+            "0009036b0109000000000000ff0116",
+            "0009036b01050000000000009a0216",
+            "0009036b0102000000000000b50217",
+            "000000000f0000001e00000003000000",
+            "00bcd4df38",
+        ],
+    ),
+];
+
+/// The index of the user keys 6162, 6164 and 6166 with one restart: the separator behind the last is 62. Stored keys, and user
+/// keys.
+static THREE_PARTS: [Part; 2] = [
+    (
+        &["write", "block", NAME, "block=64", "index-restart=16"],
+        226,
+        &[
+            "000a02616201010000000000000064010902640101000000000000695a",
+            "00090362ffffffffffffffffc80115",
+            "0000000001000000",
+            "004f6b18cd",
+        ],
+    ),
+    (
+        &[
+            "write",
+            "block",
+            NAME,
+            "block=64",
+            "version=3",
+            "index-restart=16",
+        ],
+        226,
+        &[
+            "0002026162006401010264695a",
+            "00010362c80115",
+            "0000000001000000",
+            "002238b386",
+        ],
+    ),
+];
 
 /// The files that are written for the lines have these parts.
 fn assert_parts(rt: &impl Abort, alloc: Global, lines: &[u8], parts: &[Part]) -> Result<(), Fail> {
@@ -112,7 +179,22 @@ fn assert_parts(rt: &impl Abort, alloc: Global, lines: &[u8], parts: &[Part]) ->
 fn files_of_other_intervals(rt: HostRuntime) -> Result<(), Fail> {
     assert_parts(&rt, rt.alloc(), NESTED.as_bytes(), &NESTED_PARTS)?;
     let lines = version_lines(rt.alloc())?;
-    assert_parts(&rt, rt.alloc(), lines.as_str().as_bytes(), &VERSIONS_PARTS)
+    assert_parts(&rt, rt.alloc(), lines.as_str().as_bytes(), &VERSIONS_PARTS)?;
+    let lines = text_of(rt.alloc(), THREE_LINES)?;
+    assert_parts(&rt, rt.alloc(), lines.as_str().as_bytes(), &THREE_PARTS)
+}
+
+// Three blocks make one part.
+#[test]
+fn parts_of_more_rows_than_there_are(rt: HostRuntime) -> Result<(), Fail> {
+    let lines = version_lines(rt.alloc())?;
+    let three = file_with_options(rt.alloc(), &["block=64", "parts=3"], &lines)?;
+    assert_eq!(rt; three.len(), 699);
+    for option in ["parts=4", "parts=65536"] {
+        let file = file_with_options(rt.alloc(), &["block=64", option], &lines)?;
+        assert_eq!(rt; file.as_slice(), three.as_slice(), "with {option}");
+    }
+    Ok(())
 }
 
 /// Words that name OUT as an option is spelled.

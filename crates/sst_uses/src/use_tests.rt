@@ -14,7 +14,7 @@ use std::test::Fail;
 /// The name of the file.
 const NAME: &str = "table";
 
-/// The size of data blocks that RocksDB takes where no other is chosen.
+/// The size of data blocks and the restart intervals that RocksDB takes where no others are chosen, and an index of one block.
 const OPTIONS: BbtOptions = BbtOptions {
     version: 2,
     block_size: 4096,

@@ -13,8 +13,9 @@ use std::alloc::Global;
 
 /// The bytes of the block-based table that is written for the entries, with these options.
 ///
-/// The restart intervals are from 1 to 65,536, and the sequence numbers below 2^56. Entries that aren't in order or pass a limit are refused: the first of them, for
-/// its first reason.
+/// The version is 2, 3 or 4, the restart intervals are from 1 to 65,536, a part of the index has at most 65,536 rows, and the
+/// sequence numbers are below 2^56. Entries that aren't in order or pass a limit are refused: the first of them, for its first
+/// reason.
 pub fn write_table(
     alloc: Global,
     options: BbtOptions,
