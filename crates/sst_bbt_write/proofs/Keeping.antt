@@ -10,7 +10,7 @@ use Rattle.sst_bbt_write.specs.declared.bbt_writer.BbtWriter.{BbtWriter}
 use Rattle.sst_bbt_write.specs.declared.bbt_options.BbtOptions.{BbtOptions}
 use Rattle.sst_bbt_write.specs.After.{After}
 use Rattle.sst_bbt_write.specs.Cut.{Blocks, cut_of}
-use Rattle.sst_bbt_write.specs.Keeps.{Ends, HasEntry, Keeps, with_room, with_entry}
+use Rattle.sst_bbt_write.specs.Keeps.{MayEnd, HasEntry, Keeps, with_room, with_entry}
 use Rattle.sst_bbt_write.specs.Written.{Fits, MayBeChosen, ends_from, index_options, next_key}
 use Rattle.sst_bbt_write.proofs.CutSteps.{cut_of-steps}
 use Rattle.sst_bbt_write.proofs.Rows.{Fits-nil}
@@ -20,7 +20,7 @@ pub kept-some : (w : BbtWriter) (next : Option (List ℕ)) (cut : Blocks) (entri
 kept-some w next cut entries bytes kept some = let rows = kept.rows in omega arith
 
 -- the last block may be ended
-pub ends-last : (w : BbtWriter) (cut : Blocks) (entries : List Entry) (bytes : List ℕ) → Keeps w None cut entries bytes → 0 < w.rows → Ends w None [] cut entries bytes
+pub ends-last : (w : BbtWriter) (cut : Blocks) (entries : List Entry) (bytes : List ℕ) → Keeps w None cut entries bytes → 0 < w.rows → MayEnd w None [] cut entries bytes
 ends-last w cut entries bytes kept some =
     record { keeps = kept; some = some; key = refl; fits = subst Fits (sym (append-nil entries)) kept.fits }
 
