@@ -37,10 +37,10 @@ after-added w options entries e bytes same kept =
 pub room-of : (w : BbtWriter) (options : BbtOptions) (cut : Blocks) → w.options ≡ options → with_room w.options cut ≡ with_room options cut
 room-of w options cut same = ap (λ (o : BbtOptions). with_room o cut) same
 
--- what a writer keeps it keeps with another key at hand, told of another entry behind the list
-pub keeps-with : (w new : BbtWriter) (next told : Option (List ℕ)) (cut : Blocks) (entries : List Entry) (bytes : List ℕ) → Keeps w next cut entries bytes
-    → index.Holds w.index (index_options w.options) (ends_from w.options 0 cut.ended (next_key (cut.current ∷ []) told))
-    → new ≡ record {
+-- the other writer is this one, but for the key at hand
+abbrev pub IsAlike : BbtWriter → BbtWriter → Type 0
+IsAlike w new =
+    new ≡ record {
       alloc = w.alloc;
       options = w.options;
       block = w.block;
@@ -55,7 +55,12 @@ pub keeps-with : (w new : BbtWriter) (next told : Option (List ℕ)) (cut : Bloc
       values = w.values;
       weight = w.weight;
       failed = w.failed;
-    } → Keeps new told cut entries bytes
+    }
+
+-- what a writer keeps it keeps with another key at hand, told of another entry behind the list
+pub keeps-with : (w new : BbtWriter) (next told : Option (List ℕ)) (cut : Blocks) (entries : List Entry) (bytes : List ℕ) → Keeps w next cut entries bytes
+    → index.Holds w.index (index_options w.options) (ends_from w.options 0 cut.ended (next_key (cut.current ∷ []) told))
+    → IsAlike w new → Keeps new told cut entries bytes
 keeps-with w new next told cut entries bytes kept holds same =
     subst (λ (b : BbtWriter). Keeps b told cut entries bytes) (sym same)
     (record {
@@ -78,22 +83,7 @@ keeps-with w new next told cut entries bytes kept holds same =
     })
 
 pub keeps-other : (w new : BbtWriter) (next : Option (List ℕ)) (cut : Blocks) (entries : List Entry) (bytes : List ℕ) → Keeps w next cut entries bytes
-    → new ≡ record {
-      alloc = w.alloc;
-      options = w.options;
-      block = w.block;
-      rows = w.rows;
-      index = w.index;
-      blocks = w.blocks;
-      data_size = w.data_size;
-      last = w.last;
-      key = new.key;
-      count = w.count;
-      keys = w.keys;
-      values = w.values;
-      weight = w.weight;
-      failed = w.failed;
-    } → Keeps new next cut entries bytes
+    → IsAlike w new → Keeps new next cut entries bytes
 keeps-other w new next cut entries bytes kept same = keeps-with w new next next cut entries bytes kept kept.index same
 
 -- a writer keeps the list of no entry
