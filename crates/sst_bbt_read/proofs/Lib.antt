@@ -11,6 +11,7 @@ pub mod JoinedBlocks
 pub mod Landings
 pub mod LeadsCopied
 pub mod LeadsFollowed
+pub mod ListFront
 pub mod ListSearch
 pub mod LoadedTree
 pub mod Moved
@@ -23,5 +24,6 @@ pub mod PartsRead
 pub mod Reached
 pub mod ReadsLater
 pub mod Seated
+pub mod StopsWeaker
 pub mod TableGrown
 pub mod WayOfBlocks
