@@ -1,5 +1,5 @@
 -- How a caller chains the calls of a reader.
-use Rattle.std.proofs.Common.{◌≡◌, ℕ, List, Option, Some, refl, sym, ap, ◌∙◌}
+use Rattle.std.proofs.Common.{◌≡◌, ℕ, List, Option, Some, refl, ap, ◌∙◌}
 use Rattle.sst_device.specs.Folder.{Files, file_of}
 use Rattle.sst_bbt_read.specs.Positions.{Tells, SameReader}
 use Rattle.sst_bbt_read.specs.Seats.{OpenReader}

@@ -8,7 +8,7 @@ use Rattle.std.proofs.lemmas.List.Quantifiers.{position-Some}
 use Rattle.std.proofs.lemmas.Option.{slice_get_within, slice_get-get_or, get_or_from_slice_get}
 use Rattle.sst_key.specs.declared.entries.Entry.{Entry}
 use Rattle.sst_bbt_spec.specs.BlockBased.{BlockBased}
-use Rattle.sst_bbt_spec.specs.Way.{IndexedBlock}
+use Rattle.sst_bbt_spec.specs.Parts.{Part}
 use Rattle.sst_bbt_read.specs.Kept.{Keeps, StandsOn}
 use Rattle.sst_bbt_read.specs.Positions.{Of, Belongs, rest, On, At}
 use Rattle.sst_bbt_read.specs.Seats.{OpenReader, seats_of, open_of}
@@ -99,10 +99,10 @@ pub still-at : (r now : OpenReader) (n : ℕ) (taken : Bool) (d : Cursor) (file 
 still-at r now n taken d file entries place same two at =
     record { stands_for = at.stands_for; on = still-on r now n taken d file place same two at.on }
 
-pub still-kept : (r now : OpenReader) (n : ℕ) (taken : Bool) (d : Cursor) (blocks : List IndexedBlock) (place : Option ℕ) → r ≡ now → n ≢ d.number
-    → StandsOn now d blocks place → StandsOn (reseated r n taken) d blocks place
-still-kept r now n taken d blocks place same two stands =
-    let own = subst (λ (x : OpenReader). StandsOn x d blocks place) (sym same) stands in
+pub still-kept : (r now : OpenReader) (n : ℕ) (taken : Bool) (d : Cursor) (parts : List Part) (place : Option ℕ) → r ≡ now → n ≢ d.number
+    → StandsOn now d parts place → StandsOn (reseated r n taken) d parts place
+still-kept r now n taken d parts place same two stands =
+    let own = subst (λ (x : OpenReader). StandsOn x d parts place) (sym same) stands in
     record { keeps = own.keeps; belongs = still-belongs r now n taken d same two stands.belongs; stands = own.stands }
 
 -- the reader is of the same file
@@ -163,8 +163,8 @@ pub new-at : (r now : OpenReader) (n : ℕ) (file : List ℕ) (entries : List En
     → At (reseated r n true) (cursor-at n) file entries None
 new-at r now n file entries same free of stands = record { stands_for = stands; on = new-on r now n file same free of }
 
-pub new-kept : (r now : OpenReader) (n : ℕ) (blocks : List IndexedBlock) → r ≡ now → slice_get r.seats n ≡ Some false → Keeps now blocks
-    → StandsOn (reseated r n true) (cursor-at n) blocks None
-new-kept r now n blocks same free keeps =
-    let own = subst (λ (x : OpenReader). Keeps x blocks) (sym same) keeps in
+pub new-kept : (r now : OpenReader) (n : ℕ) (parts : List Part) → r ≡ now → slice_get r.seats n ≡ Some false → Keeps now parts
+    → StandsOn (reseated r n true) (cursor-at n) parts None
+new-kept r now n parts same free keeps =
+    let own = subst (λ (x : OpenReader). Keeps x parts) (sym same) keeps in
     record { keeps = own; belongs = new-belongs r n free; stands = refl }

@@ -3,8 +3,8 @@
 -- before it is read, and whatever comes before a fault is good.
 -- RocksDB: BlockBasedTable::Open and NewDataBlockIterator in table/block_based/block_based_table_reader.cc. For now all data
 -- blocks are read when a file is opened.
--- Pinned by: a_fault_is_shown, a_file_that_opens_shows_no_fault, the_fault_of_opening_is_the_first
-use Rattle.std.specs.Prelude.{◌≡◌, ◌⊎◌, ℕ, Bool, true, false, List, [], ◌∷◌, Result, Err}
+-- Pinned by: a_file_opens_or_fails, a_file_that_opens_shows_no_fault, the_fault_of_opening_is_the_first
+use Rattle.std.specs.Prelude.{◌≡◌, ◌⊎◌, ℕ, Bool, true, false, List, [], ◌∷◌, Err}
 use Rattle.sst_num.specs.declared.block_handle.Handle.{Handle}
 use Rattle.sst_key.specs.declared.entries.Entry.{Entry}
 use Rattle.sst_block.specs.declared.row_form.RowForm.{RowForm}

@@ -62,6 +62,6 @@ pub record OpeningFailsFirst (file : List ℕ) (step : OpenStep) (fault : BbtFau
 
 -- the file shows the fault: opening fails with it at a step, be it the first or a later one
 -- RocksDB: Status::Corruption and Status::NotSupported of BlockBasedTable::Open and of its iterators
--- Pinned by: a_fault_is_shown, a_file_that_opens_shows_no_fault
+-- Pinned by: a_file_that_opens_shows_no_fault
 abbrev pub Shows : List ℕ → BbtFault → Type 0
 Shows file fault = (step : OpenStep) × OpeningFailsAt file step fault

@@ -13,11 +13,11 @@ use Rattle.sst_key.specs.declared.calls.Answer.{Answer}
 use Rattle.sst_key.specs.declared.calls.Reply.{Reply}
 use Rattle.sst_device.specs.Folder.{Files, file_of}
 use Rattle.sst_bbt_spec.specs.BlockBased.{BlockBased, Opens}
-use Rattle.sst_bbt_spec.specs.Way.{IndexedBlock}
+use Rattle.sst_bbt_spec.specs.Parts.{Part}
 use Rattle.sst_bbt_read.specs.Cursors.{IsPlace}
-use Rattle.sst_bbt_read.specs.Opening.{blocks_read}
+use Rattle.sst_bbt_read.specs.OpeningFaults.{FailsToOpen}
 use Rattle.sst_bbt_read.specs.Seats.{OpenReader, SameSeats}
-use Rattle.sst_bbt_read.specs.TableBlocks.{blocks_of}
+use Rattle.sst_bbt_read.specs.TableBlocks.{parts_of}
 use Rattle.sst_bbt_read.specs.declared.bbt_fault.BbtFault.{BbtFault}
 use Rattle.sst_bbt_read.specs.declared.cursor.Cursor.{Cursor}
 
@@ -27,10 +27,10 @@ use Rattle.sst_bbt_read.specs.declared.cursor.Cursor.{Cursor}
 abbrev pub Tells : Option Files → OpenReader → List ℕ → Type 0
 Tells held r file = file_of held r.name ≡ Some file
 
--- the reader is one of the file: what it keeps are the data blocks to which the file opens
+-- the reader is one of the file: what it keeps are the parts to which the file opens
 -- Pinned by: open.told, next.way
 abbrev pub Of : OpenReader → List ℕ → Type 0
-Of r file = (blocks : List IndexedBlock) → Opens file blocks → blocks_of r.table ≡ blocks
+Of r file = (parts : List Part) → Opens file parts → parts_of r.table ≡ parts
 
 -- the folder tells that the reader's name has no file of which the reader is
 -- Own.
@@ -75,7 +75,7 @@ left_from entries (Some i) = length entries - i
 abbrev pub rest : OpenReader → Cursor → ℕ
 rest r c = left_from r.table.entries c.place
 
--- the reader is one of the file, and the cursor stands on this entry of the file's data blocks, or nowhere
+-- the reader is one of the file, and the cursor stands on this entry of those in the file's parts, or nowhere
 -- Pinned by: next.way, cursor.on
 pub record On (r : OpenReader) (c : Cursor) (file : List ℕ) (place : Option ℕ) : Type 0 where
   pub of : Of r file
@@ -142,10 +142,10 @@ Found (Err (Damage fault)) r c file entries place = ⊥
 Found (Err Device) r c file entries place = At r c file entries None
 Found (Err Memory) r c file entries place = At r c file entries None
 
--- What opening a file comes to: a reader of it, and the file opens to data blocks; or its first fault
+-- What opening a file comes to: a reader of it, and the file opens to parts; or its first fault
 -- Pinned by: open.told
 abbrev pub OpensAs : Result OpenReader (Stop BbtFault) → List ℕ → Type 0
-OpensAs (Ok r) file = Of r file × ((blocks : List IndexedBlock) × Opens file blocks)
-OpensAs (Err (Damage fault)) file = blocks_read file ≡ Err fault
+OpensAs (Ok r) file = Of r file × ((parts : List Part) × Opens file parts)
+OpensAs (Err (Damage fault)) file = FailsToOpen file fault
 OpensAs (Err Device) file = Unit {0}
 OpensAs (Err Memory) file = Unit {0}

@@ -6,6 +6,7 @@ use Rattle.sst_key.specs.declared.entries.Entry.{Entry}
 use Rattle.sst_num.specs.declared.stops.Stop.{Stop}
 use Rattle.sst_num.specs.declared.stops.Stop.TheVariants.{Damage, Device, Memory}
 use Rattle.sst_bbt_spec.specs.BlockBased.{Opens}
+use Rattle.sst_bbt_spec.specs.Parts.{Part}
 use Rattle.sst_bbt_read.specs.OpeningFaults.{FailsToOpen}
 use Rattle.sst_bbt_read.specs.TableBlocks.{OpenTable, AreEntries, parts_of}
 use Rattle.sst_bbt_read.specs.declared.bbt_fault.BbtFault.{BbtFault}
@@ -17,6 +18,14 @@ Opened (Ok table) file = Opens file (parts_of table)
 Opened (Err (Damage fault)) file = FailsToOpen file fault
 Opened (Err Device) file = Unit {0}
 Opened (Err Memory) file = Unit {0}
+
+-- an answer has these parts, and isn't a fault
+-- Pinned by: open.stands
+abbrev pub OpensTo : Result OpenTable (Stop BbtFault) → List Part → Type 0
+OpensTo (Ok table) parts = parts_of table ≡ parts
+OpensTo (Err (Damage fault)) parts = ⊥
+OpensTo (Err Device) parts = Unit {0}
+OpensTo (Err Memory) parts = Unit {0}
 
 -- where an answer is a fault, the relation has it
 -- Own.

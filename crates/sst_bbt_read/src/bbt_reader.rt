@@ -5,7 +5,7 @@ ghost use Rattle.sst_device.specs.Folder.{file_of, misses};
 ghost use Rattle.sst_device.specs.Outside.{OnlyReads};
 ghost use Rattle.sst_key.specs.declared.entries.Entry.{Entry as entry_type};
 ghost use Rattle.sst_bbt_spec.specs.BlockBased.{BlockBased, Opens};
-ghost use Rattle.sst_bbt_spec.specs.Way.{IndexedBlock};
+ghost use Rattle.sst_bbt_spec.specs.Parts.{Part};
 ghost use Rattle.sst_bbt_read.specs.Kept.{Keeps};
 ghost use Rattle.sst_bbt_read.specs.Positions.{Belongs, OpensAs};
 ghost use Rattle.sst_bbt_read.specs.Seats.{OpenReader, seats_of, open_of};
@@ -54,8 +54,8 @@ impl BbtReader {
     /// Opens the named file: reads what it says of itself, its index, and its data blocks. At most `seats` cursors may be
     /// open at a time; `cached` is how many blocks may be kept beside those that cursors need, and has no effect yet.
     ///
-    /// The first thing that is wrong is answered, in this order: what `load` of `sst_meta` answers; the index; the data
-    /// blocks, in the order of the index.
+    /// The first thing that is wrong is answered, in this order: what `load` of `sst_meta` answers; the top block of the
+    /// index; then each part of the index, and behind it its data blocks.
     /// RocksDB: `BlockBasedTable::Open` in table/block_based/block_based_table_reader.cc.
     pub fn open<F: Folder>(
         alloc: Global,
@@ -72,8 +72,8 @@ impl BbtReader {
         ensures name { IfOk result (λ r. r.name ≡ name.now) }
         ensures seats { IfOk result (λ r. (seats_of r ≡ seats) × (open_of r ≡ 0)) }
         ensures none { IfOk result (λ r. (c : cursor_type) → Belongs r c → ⊥) }
-        ensures kept { IfOk result (λ r. (blocks : List IndexedBlock) × Keeps r blocks
-            × ((file : List ℕ) → file_of (F.held files.old) name.now ≡ Some file → Opens file blocks)) }
+        ensures kept { IfOk result (λ r. (parts : List Part) × Keeps r parts
+            × ((file : List ℕ) → file_of (F.held files.old) name.now ≡ Some file → Opens file parts)) }
         ensures folder { OnlyReads (result ≡ Err Stop.Device) (IsTrue (misses (F.held files.old) name.now 0))
             (F.held files.old) (F.held files.new) (F.faults files.old) (F.faults files.new) }
         ensures absent { IsTrue (misses (F.held files.old) name.now 0) → (result ≡ Err Stop.Device) ⊎ (result ≡ Err Stop.Memory) }

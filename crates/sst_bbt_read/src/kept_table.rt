@@ -1,10 +1,12 @@
-//! What a reader keeps of a block-based file: for now all its entries, in memory.
+//! What a reader keeps of a block-based file: for now all its entries, in memory, and the tree of its index.
 ghost use Rattle.std.specs.Prelude.{◌≡◌, ℕ, ◌⊎◌, List, Some, Err, IsTrue, IfOk};
 ghost use Rattle.sst_device.specs.Folder.{file_of, misses};
 ghost use Rattle.sst_device.specs.Outside.{OnlyReads};
 ghost use Rattle.sst_device.specs.Stops.{stop_as};
-ghost use Rattle.sst_bbt_read.specs.Reader.{Opened};
+ghost use Rattle.sst_bbt_read.specs.Reader.{Opened, OpensTo};
 ghost use Rattle.sst_bbt_read.specs.TableBlocks.{IsOpenTable};
+ghost use Rattle.sst_bbt_spec.specs.BlockBased.{BlockBased};
+ghost use Rattle.sst_key.specs.declared.entries.Entry.{Entry as entry_type};
 ghost use Rattle.sst_bbt_read.specs.declared.bbt_fault.BbtFault.TheVariants as bbt;
 
 mod checked;
@@ -35,14 +37,15 @@ pub struct RunEnd {
 /// What is kept of a block-based file that is open.
 ///
 /// Contracts see it as the parts of its index, each by its separator and where its data blocks end; its data blocks, each by
-/// its separator and where its entries end; and the entries of all. The entries of a block increase, their sequence numbers
-/// are below 2^56, and their user keys have at most 65,536 bytes. For now all entries are kept in memory.
+/// its separator and where its entries end; and the entries of all. A whole index has a part for each data block. The
+/// entries of a block increase, their sequence numbers are below 2^56, and their user keys have at most 65,536 bytes. For
+/// now all entries are kept in memory.
 /// RocksDB: `BlockBasedTable` in table/block_based/block_based_table_reader.h.
 #[derive(Debug, Drop)]
 pub struct KeptTable {
     /// The parts of the index, in order.
     tops: Vec<RunEnd>,
-    /// The data blocks, in order.
+    /// The data blocks of all parts, in order.
     ends: Vec<RunEnd>,
     /// The entries of all blocks, in order.
     entries: Vec<Entry>,
@@ -71,6 +74,8 @@ impl KeptTable {
     ) -> Result<KeptTable, Stop<BbtFault>>
         ensures table { IfOk result IsOpenTable }
         ensures told { (file : List ℕ) → file_of (F.held files.old) name.now ≡ Some file → Opened result file }
+        ensures stands { (file : List ℕ) (entries : List entry_type) → file_of (F.held files.old) name.now ≡ Some file
+            → (stands : BlockBased file entries) → OpensTo result stands.parts }
         ensures folder { OnlyReads (result ≡ Err Stop.Device) (IsTrue (misses (F.held files.old) name.now 0))
             (F.held files.old) (F.held files.new) (F.faults files.old) (F.faults files.new) }
         ensures absent { IsTrue (misses (F.held files.old) name.now 0) → (result ≡ Err Stop.Device) ⊎ (result ≡ Err Stop.Memory) }

@@ -1,17 +1,15 @@
-//! Places in a table that is open, found by halving: how the separators of the data blocks stand to a target, and where a
-//! target stands in an ordered list of entries.
-ghost use Rattle.std.specs.Prelude.{◌≡◌, ◌≤◌, false, if◌then◌else◌, nat_lt, length, count_by, All, ℕ, ◌<◌, Option, None, Some, List, IfSome};
+//! Places in a table that is open, found by halving: how separators stand to a target, be they those of parts or of data
+//! blocks, and where a target stands in an ordered list of entries.
+ghost use Rattle.std.specs.Prelude.{◌≡◌, ℕ, ◌≤◌, false, if◌then◌else◌, nat_lt, length, count_by};
 ghost use Rattle.sst_key.specs.InternalKey.{user_of, tag_of};
 ghost use Rattle.sst_bbt_spec.specs.Way.{is_separator_before, seek_tag, seek_for_prev_tag};
-ghost use Rattle.sst_block.specs.Block.{AreOrdered};
-ghost use Rattle.sst_block.specs.declared.row_form.RowForm.TheVariants.{Index};
-ghost use Rattle.sst_bbt_read.specs.TableBlocks.{separator_rows};
+ghost use Rattle.sst_bbt_read.specs.TableBlocks.{AreSeparators};
 ghost use Rattle.sst_key.specs.declared.entries.Entry.{Entry as entry_type};
 ghost use Rattle.sst_key.specs.Entry.{IsOrdered};
 ghost use Rattle.sst_key.specs.ListMachine as machine;
-ghost use Rattle.sst_bbt_read.specs.declared.kept_table.BlockEnd as ends;
+ghost use Rattle.sst_bbt_read.specs.declared.kept_table.RunEnd as ends;
 
-use crate::kept_table::BlockEnd;
+use crate::kept_table::RunEnd;
 use sst_key::{Entry, TAG_LENGTH, target_cmp};
 use sst_num::fixed64;
 use std::cmp::Ordering;
@@ -68,28 +66,27 @@ pub fn is_before_seek_for_prev(separator: &[u8], user: &[u8], seq: u64) -> bool
     }
 }
 
-/// How many blocks have a separator before the target of a Seek or a Get.
-pub fn blocks_before_seek(blocks: &[BlockEnd], user: &[u8], seq: u64) -> usize
-    requires long { All (λ (b : ends.BlockEnd). 8 ≤ length b.separator) blocks.now }
-    requires ordered { AreOrdered (Index false false) (separator_rows blocks.now) }
-    ensures { result ≡ count_by (λ (b : ends.BlockEnd). is_separator_before user.now (seek_tag seq) b.separator) blocks.now }
+/// How many runs have a separator before the target of a Seek or a Get.
+pub fn runs_before_seek(runs: &[RunEnd], user: &[u8], seq: u64) -> usize
+    requires { AreSeparators runs.now }
+    ensures { result ≡ count_by (λ (r : ends.RunEnd). is_separator_before user.now (seek_tag seq) r.separator) runs.now }
 {
-    blocks.partition_point(|block| is_before_seek(block.separator.as_slice(), user, seq))
+    runs.partition_point(|run| is_before_seek(run.separator.as_slice(), user, seq))
 }
 
-/// How many blocks have a separator before the target of a SeekForPrev.
-pub fn blocks_before_seek_for_prev(blocks: &[BlockEnd], user: &[u8], seq: u64) -> usize
-    requires long { All (λ (b : ends.BlockEnd). 8 ≤ length b.separator) blocks.now }
-    requires ordered { AreOrdered (Index false false) (separator_rows blocks.now) }
-    ensures { result ≡ count_by (λ (b : ends.BlockEnd). is_separator_before user.now (seek_for_prev_tag seq) b.separator) blocks.now }
+/// How many runs have a separator before the target of a SeekForPrev.
+pub fn runs_before_seek_for_prev(runs: &[RunEnd], user: &[u8], seq: u64) -> usize
+    requires { AreSeparators runs.now }
+    ensures { result ≡ count_by (λ (r : ends.RunEnd). is_separator_before user.now (seek_for_prev_tag seq) r.separator) runs.now }
 {
-    blocks.partition_point(|block| is_before_seek_for_prev(block.separator.as_slice(), user, seq))
+    runs.partition_point(|run| is_before_seek_for_prev(run.separator.as_slice(), user, seq))
 }
 
 /// How many entries are before the target.
 pub fn below(entries: &[Entry], user: &[u8], seq: u64) -> usize
     requires { IsOrdered entries.now }
-    ensures { result ≡ machine.below entries.now user.now seq }
+    ensures count { result ≡ machine.below entries.now user.now seq }
+    ensures within { result ≤ length entries.now }
 {
     entries.partition_point(|entry| target_cmp(entry, user, seq).is_lt())
 }
@@ -97,7 +94,8 @@ pub fn below(entries: &[Entry], user: &[u8], seq: u64) -> usize
 /// How many entries are before the target or at it.
 pub fn up_to(entries: &[Entry], user: &[u8], seq: u64) -> usize
     requires { IsOrdered entries.now }
-    ensures { result ≡ machine.up_to entries.now user.now seq }
+    ensures count { result ≡ machine.up_to entries.now user.now seq }
+    ensures within { result ≤ length entries.now }
 {
     entries.partition_point(|entry| target_cmp(entry, user, seq).is_le())
 }

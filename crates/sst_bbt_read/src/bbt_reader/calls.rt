@@ -1,5 +1,5 @@
 //! The calls of a cursor: it moves over the entries of the file, and shows where it stands.
-ghost use Rattle.std.specs.Prelude.{◌≡◌, ℕ, ◌<◌, ◌↔◌, true, false, List, Option, Some, Ok, Err, OnErr, slice_get};
+ghost use Rattle.std.specs.Prelude.{◌≡◌, ℕ, ◌<◌, ◌↔◌, true, false, List, Option, None, Some, Ok, Err, OnErr, slice_get};
 ghost use Rattle.std.specs.Option.{is_some};
 ghost use Rattle.sst_key.specs.Entry.{entry_of};
 ghost use Rattle.sst_key.specs.ListMachine.{answer_of, get_of};
@@ -8,7 +8,8 @@ ghost use Rattle.sst_key.specs.declared.calls.Format.TheVariants.{Block};
 ghost use Rattle.sst_key.specs.declared.entries.Entry.{Entry as entry_type};
 ghost use Rattle.sst_device.specs.Outside.{OnlyReads};
 ghost use Rattle.sst_bbt_spec.specs.BlockBased.{Opens};
-ghost use Rattle.sst_bbt_spec.specs.Way.{IndexedBlock, joined, way_answer, way_get};
+ghost use Rattle.sst_bbt_spec.specs.Parts.{Part, stored_in};
+ghost use Rattle.sst_bbt_spec.specs.PartWay.{answer_in_parts, get_in_parts};
 ghost use Rattle.sst_bbt_read.specs.Kept.{StandsOn, KeptMove, KeptGet};
 ghost use Rattle.sst_bbt_read.specs.Positions.{Tells, IsLost, Belongs, IsSame, is_placed, rest, On, At, SameReader, OthersStay, Goes, Moved, Finds, Found};
 
@@ -36,8 +37,8 @@ impl BbtReader {
         ensures same { IsSame c.old c.new }
         ensures reader { SameReader (F.held files.old) self.old self.new }
         ensures others { OthersStay (F.held files.old) self.old self.new c.old }
-        ensures way { (file : List ℕ) (blocks : List IndexedBlock) (place : Option ℕ) → Tells (F.held files.old) self.old file → Opens file blocks
-            → On self.old c.old file place → Finds result self.new c.new file (way_get blocks user.now seq) }
+        ensures way { (file : List ℕ) (parts : List Part) (place : Option ℕ) → Tells (F.held files.old) self.old file → Opens file parts
+            → On self.old c.old file place → Finds result self.new c.new file (get_in_parts None parts user.now seq) }
         ensures moved { (file : List ℕ) (entries : List entry_type) (place : Option ℕ) → Tells (F.held files.old) self.old file
             → At self.old c.old file entries place → Found result self.new c.new file entries (get_of entries user.now seq) }
         ensures err { OnErr result (is_placed c.new ≡ false) }
@@ -62,8 +63,8 @@ impl BbtReader {
         ensures same { IsSame c.old c.new }
         ensures reader { SameReader (F.held files.old) self.old self.new }
         ensures others { OthersStay (F.held files.old) self.old self.new c.old }
-        ensures way { (file : List ℕ) (blocks : List IndexedBlock) (place : Option ℕ) → Tells (F.held files.old) self.old file → Opens file blocks
-            → On self.old c.old file place → Goes result self.new c.new file (way_answer blocks place call.First) }
+        ensures way { (file : List ℕ) (parts : List Part) (place : Option ℕ) → Tells (F.held files.old) self.old file → Opens file parts
+            → On self.old c.old file place → Goes result self.new c.new file (answer_in_parts None parts place call.First) }
         ensures moved { (file : List ℕ) (entries : List entry_type) (place : Option ℕ) → Tells (F.held files.old) self.old file
             → At self.old c.old file entries place → Moved result self.new c.new file entries (answer_of Block 0 entries place call.First) }
         ensures err { OnErr result (is_placed c.new ≡ false) }
@@ -88,8 +89,8 @@ impl BbtReader {
         ensures same { IsSame c.old c.new }
         ensures reader { SameReader (F.held files.old) self.old self.new }
         ensures others { OthersStay (F.held files.old) self.old self.new c.old }
-        ensures way { (file : List ℕ) (blocks : List IndexedBlock) (place : Option ℕ) → Tells (F.held files.old) self.old file → Opens file blocks
-            → On self.old c.old file place → Goes result self.new c.new file (way_answer blocks place call.Last) }
+        ensures way { (file : List ℕ) (parts : List Part) (place : Option ℕ) → Tells (F.held files.old) self.old file → Opens file parts
+            → On self.old c.old file place → Goes result self.new c.new file (answer_in_parts None parts place call.Last) }
         ensures moved { (file : List ℕ) (entries : List entry_type) (place : Option ℕ) → Tells (F.held files.old) self.old file
             → At self.old c.old file entries place → Moved result self.new c.new file entries (answer_of Block 0 entries place call.Last) }
         ensures err { OnErr result (is_placed c.new ≡ false) }
@@ -101,10 +102,11 @@ impl BbtReader {
         Ok(self.table.last(&mut c.place))
     }
 
-    /// Goes to the first entry at or after the target, by the way of the index: to nowhere where every separator is before
-    /// the target. After an error the cursor stands nowhere.
+    /// Goes to the first entry at or after the target, by the way of the index: to nowhere where every separator of the top
+    /// block is before the target. After an error the cursor stands nowhere.
     ///
-    /// RocksDB: `BlockBasedTableIterator::Seek` in table/block_based/block_based_table_iterator.cc.
+    /// RocksDB: `BlockBasedTableIterator::Seek` in table/block_based/block_based_table_iterator.cc, `SeekImpl` in
+    /// table/block_based/partitioned_index_iterator.cc.
     pub fn seek<F: Folder>(
         &mut self,
         files: &mut F,
@@ -117,8 +119,8 @@ impl BbtReader {
         ensures same { IsSame c.old c.new }
         ensures reader { SameReader (F.held files.old) self.old self.new }
         ensures others { OthersStay (F.held files.old) self.old self.new c.old }
-        ensures way { (file : List ℕ) (blocks : List IndexedBlock) (place : Option ℕ) → Tells (F.held files.old) self.old file → Opens file blocks
-            → On self.old c.old file place → Goes result self.new c.new file (way_answer blocks place (call.Seek (record { user = user.now; seq = seq }))) }
+        ensures way { (file : List ℕ) (parts : List Part) (place : Option ℕ) → Tells (F.held files.old) self.old file → Opens file parts
+            → On self.old c.old file place → Goes result self.new c.new file (answer_in_parts None parts place (call.Seek (record { user = user.now; seq = seq }))) }
         ensures moved { (file : List ℕ) (entries : List entry_type) (place : Option ℕ) → Tells (F.held files.old) self.old file
             → At self.old c.old file entries place → Moved result self.new c.new file entries (answer_of Block 0 entries place (call.Seek (record { user = user.now; seq = seq }))) }
         ensures err { OnErr result (is_placed c.new ≡ false) }
@@ -131,7 +133,7 @@ impl BbtReader {
     }
 
     /// Goes to the last entry at or before the target, by the way of the index: to the last of all where every separator
-    /// is before the target. After an error the cursor stands nowhere.
+    /// of the top block is before the target. After an error the cursor stands nowhere.
     ///
     /// RocksDB: `BlockBasedTableIterator::SeekForPrev` in table/block_based/block_based_table_iterator.cc.
     pub fn seek_for_prev<F: Folder>(
@@ -146,8 +148,8 @@ impl BbtReader {
         ensures same { IsSame c.old c.new }
         ensures reader { SameReader (F.held files.old) self.old self.new }
         ensures others { OthersStay (F.held files.old) self.old self.new c.old }
-        ensures way { (file : List ℕ) (blocks : List IndexedBlock) (place : Option ℕ) → Tells (F.held files.old) self.old file → Opens file blocks
-            → On self.old c.old file place → Goes result self.new c.new file (way_answer blocks place (call.SeekForPrev (record { user = user.now; seq = seq }))) }
+        ensures way { (file : List ℕ) (parts : List Part) (place : Option ℕ) → Tells (F.held files.old) self.old file → Opens file parts
+            → On self.old c.old file place → Goes result self.new c.new file (answer_in_parts None parts place (call.SeekForPrev (record { user = user.now; seq = seq }))) }
         ensures moved { (file : List ℕ) (entries : List entry_type) (place : Option ℕ) → Tells (F.held files.old) self.old file
             → At self.old c.old file entries place → Moved result self.new c.new file entries (answer_of Block 0 entries place (call.SeekForPrev (record { user = user.now; seq = seq }))) }
         ensures err { OnErr result (is_placed c.new ≡ false) }
@@ -172,8 +174,8 @@ impl BbtReader {
         ensures same { IsSame c.old c.new }
         ensures reader { SameReader (F.held files.old) self.old self.new }
         ensures others { OthersStay (F.held files.old) self.old self.new c.old }
-        ensures way { (file : List ℕ) (blocks : List IndexedBlock) (place : Option ℕ) → Tells (F.held files.old) self.old file → Opens file blocks
-            → On self.old c.old file place → Goes result self.new c.new file (way_answer blocks place call.Next) }
+        ensures way { (file : List ℕ) (parts : List Part) (place : Option ℕ) → Tells (F.held files.old) self.old file → Opens file parts
+            → On self.old c.old file place → Goes result self.new c.new file (answer_in_parts None parts place call.Next) }
         ensures moved { (file : List ℕ) (entries : List entry_type) (place : Option ℕ) → Tells (F.held files.old) self.old file
             → At self.old c.old file entries place → Moved result self.new c.new file entries (answer_of Block 0 entries place call.Next) }
         ensures err { OnErr result (is_placed c.new ≡ false) }
@@ -200,8 +202,8 @@ impl BbtReader {
         ensures same { IsSame c.old c.new }
         ensures reader { SameReader (F.held files.old) self.old self.new }
         ensures others { OthersStay (F.held files.old) self.old self.new c.old }
-        ensures way { (file : List ℕ) (blocks : List IndexedBlock) (place : Option ℕ) → Tells (F.held files.old) self.old file → Opens file blocks
-            → On self.old c.old file place → Goes result self.new c.new file (way_answer blocks place call.Prev) }
+        ensures way { (file : List ℕ) (parts : List Part) (place : Option ℕ) → Tells (F.held files.old) self.old file → Opens file parts
+            → On self.old c.old file place → Goes result self.new c.new file (answer_in_parts None parts place call.Prev) }
         ensures moved { (file : List ℕ) (entries : List entry_type) (place : Option ℕ) → Tells (F.held files.old) self.old file
             → At self.old c.old file entries place → Moved result self.new c.new file entries (answer_of Block 0 entries place call.Prev) }
         ensures err { OnErr result (is_placed c.new ≡ false) }
@@ -223,7 +225,7 @@ impl BbtReader {
         ensures on { (file : List ℕ) (place : Option ℕ) → On self.now c.now file place → result ≡ is_some place }
         ensures at { (file : List ℕ) (entries : List entry_type) (place : Option ℕ) → At self.now c.now file entries place
             → result ≡ is_some place }
-        ensures kept { (blocks : List IndexedBlock) (place : Option ℕ) → StandsOn self.now c.now blocks place → result ≡ is_some place }
+        ensures kept { (parts : List Part) (place : Option ℕ) → StandsOn self.now c.now parts place → result ≡ is_some place }
     {
         c.place.is_some()
     }
@@ -234,12 +236,12 @@ impl BbtReader {
     pub fn entry<'a>(&'a self, c: &'a Cursor) -> EntryView<'a>
         requires belongs { Belongs self.now c.now }
         requires stands { is_placed c.now ≡ true }
-        ensures on { (file : List ℕ) (blocks : List IndexedBlock) (i : ℕ) → Opens file blocks → On self.now c.now file (Some i)
-            → slice_get (joined blocks) i ≡ Some (entry_of result) }
+        ensures on { (file : List ℕ) (parts : List Part) (i : ℕ) → Opens file parts → On self.now c.now file (Some i)
+            → slice_get (stored_in parts) i ≡ Some (entry_of result) }
         ensures at { (file : List ℕ) (entries : List entry_type) (i : ℕ) → At self.now c.now file entries (Some i)
             → slice_get entries i ≡ Some (entry_of result) }
-        ensures kept { (blocks : List IndexedBlock) (i : ℕ) → StandsOn self.now c.now blocks (Some i)
-            → slice_get (joined blocks) i ≡ Some (entry_of result) }
+        ensures kept { (parts : List Part) (i : ℕ) → StandsOn self.now c.now parts (Some i)
+            → slice_get (stored_in parts) i ≡ Some (entry_of result) }
     {
         match c.place {
             Some(place) => self.table.entry(place),

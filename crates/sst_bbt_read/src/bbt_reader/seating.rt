@@ -2,7 +2,7 @@
 ghost use Rattle.std.specs.Prelude.{◌≡◌, ℕ, ◌+◌, ◌↔◌, Bool, true, false, not, position, None, Ok, Err, IfOk, OnOk, OnErr, List, length, Option};
 ghost use Rattle.sst_key.specs.declared.entries.Entry.{Entry as entry_type};
 ghost use Rattle.sst_bbt_spec.specs.BlockBased.{BlockBased};
-ghost use Rattle.sst_bbt_spec.specs.Way.{IndexedBlock};
+ghost use Rattle.sst_bbt_spec.specs.Parts.{Part};
 ghost use Rattle.sst_bbt_read.specs.Kept.{Keeps, StandsOn};
 ghost use Rattle.sst_bbt_read.specs.Positions.{Of, Belongs, AreTwo, is_placed, rest, On, At};
 ghost use Rattle.sst_bbt_read.specs.Seats.{seats_of, open_of};
@@ -40,9 +40,9 @@ impl BbtReader {
         ensures others_on { (d : cursor_type) (file : List ℕ) (place : Option ℕ) → On self.old d file place → On self.new d file place }
         ensures others_at { (d : cursor_type) (file : List ℕ) (entries : List entry_type) (place : Option ℕ)
             → At self.old d file entries place → At self.new d file entries place }
-        ensures kept { IfOk result (λ c. (blocks : List IndexedBlock) → Keeps self.old blocks → StandsOn self.new c blocks None) }
-        ensures others_kept { (d : cursor_type) (blocks : List IndexedBlock) (place : Option ℕ)
-            → StandsOn self.old d blocks place → StandsOn self.new d blocks place }
+        ensures kept { IfOk result (λ c. (parts : List Part) → Keeps self.old parts → StandsOn self.new c parts None) }
+        ensures others_kept { (d : cursor_type) (parts : List Part) (place : Option ℕ)
+            → StandsOn self.old d parts place → StandsOn self.new d parts place }
     {
         match free_seat(self.seats.as_slice()) {
             None => Err(CursorStop::Full),

@@ -1,16 +1,17 @@
 //! The moves of a place over the list of a table's entries, None for nowhere.
-ghost use Rattle.std.specs.Prelude.{◌≡◌, ℕ, ◌-◌, ◌<◌, List, length, take, drop, Option, None, Some, option_and_then, slice_get};
+ghost use Rattle.std.specs.Prelude.{◌≡◌, ℕ, ◌+◌, ◌-◌, ◌<◌, ◌≤◌, List, [], length, take, drop, Option, None, Some, IfSome, IfNone, option_and_then, slice_get};
 ghost use Rattle.std.specs.Option.{is_some};
-ghost use Rattle.sst_key.specs.Entry.{entry_of};
+ghost use Rattle.sst_key.specs.Entry.{IsOrdered, entry_of};
 ghost use Rattle.sst_key.specs.ListMachine as machine;
 ghost use Rattle.sst_key.specs.declared.calls.Call.TheVariants as call;
 ghost use Rattle.sst_bbt_read.specs.Cursors.{IsPlace, Comes};
-ghost use Rattle.sst_bbt_read.specs.TableBlocks.{blocks_of, start_at};
-ghost use Rattle.sst_bbt_read.specs.declared.kept_table.BlockEnd.{BlockEnd};
-ghost use Rattle.sst_bbt_spec.specs.Way.{joined, way_answer, way_seek, way_get, way_seek_for_prev};
+ghost use Rattle.sst_bbt_read.specs.TableBlocks.{AreSeparators, parts_of, start_at};
+ghost use Rattle.sst_bbt_read.specs.declared.kept_table.RunEnd.{RunEnd as run_end};
+ghost use Rattle.sst_bbt_spec.specs.Parts.{stored_in};
+ghost use Rattle.sst_bbt_spec.specs.PartWay.{answer_in_parts, get_in_parts, seek_in_parts, seek_for_prev_in_parts, seek_passed_in, prev_passed_in};
 
-use crate::kept_table::KeptTable;
-use crate::search::{below, blocks_before_seek, blocks_before_seek_for_prev, up_to};
+use crate::kept_table::{KeptTable, RunEnd};
+use crate::search::{below, runs_before_seek, runs_before_seek_for_prev, up_to};
 use sst_key::{Entry, EntryView, Reply};
 
 /// What a move that landed here replies.
@@ -20,6 +21,17 @@ fn reply(place: Option<usize>) -> Reply
     match place {
         Some(_) => Reply::Shown,
         None => Reply::None,
+    }
+}
+
+/// Where the i-th of some runs begins. `i` is at most the number of runs.
+fn start_of(runs: &[RunEnd], i: usize) -> usize
+    requires { i ≤ length runs.now }
+    ensures { result ≡ start_at 0 runs.now i }
+{
+    match i.checked_sub(1) {
+        None => 0,
+        Some(before) => runs[before].end,
     }
 }
 
@@ -48,55 +60,95 @@ impl KeptTable {
         }
     }
 
-    /// Where the entries of a block begin. `i` is below the number of blocks.
-    fn start_of(&self, i: usize) -> usize
-        requires { i < length self.now.ends }
-        ensures { result ≡ start_at 0 self.now.ends i }
+    /// The number of the first data block of a part, and the data blocks of the part. None where there aren't so many parts.
+    fn part(&self, i: usize) -> Option<(usize, &[RunEnd])>
+        ensures none { IfNone result (length self.now.tops ≤ i) }
+        ensures some { IfSome result (λ p. (top : run_end) × (slice_get self.now.tops i ≡ Some top) × (p.0 ≡ start_at 0 self.now.tops i)
+            × (p.1.now ≡ take (top.end - p.0) (drop p.0 self.now.ends))) }
+        ensures separators { IfSome result (λ p. AreSeparators p.1.now) }
+        ensures within { IfSome result (λ p. p.0 + length p.1.now ≤ length self.now.ends) }
     {
-        match i.checked_sub(1) {
-            None => 0,
-            Some(before) => self.ends[before].end,
-        }
+        let top = self.tops.get(i)?;
+        let first = start_of(self.tops.as_slice(), i);
+        Some((first, &self.ends[first..top.end]))
     }
 
-    /// Where the entries of a block begin, and the entries. `i` is below the number of blocks.
+    /// Where the entries of a data block begin, and the entries. `i` is below the number of data blocks.
     fn block(&self, i: usize) -> (usize, &[Entry])
         requires { i < length self.now.ends }
         ensures start { result.0 ≡ start_at 0 self.now.ends i }
-        ensures entries { (b : BlockEnd) → slice_get self.now.ends i ≡ Some b
-            → result.1.now ≡ take (b.end - result.0) (drop result.0 self.now.entries) }
+        ensures entries { (end : run_end) → slice_get self.now.ends i ≡ Some end
+            → result.1.now ≡ take (end.end - result.0) (drop result.0 self.now.entries) }
+        ensures ordered { IsOrdered result.1.now }
+        ensures within { result.0 + length result.1.now ≤ length self.now.entries }
     {
-        let start = self.start_of(i);
+        let start = start_of(self.ends.as_slice(), i);
         let end = self.ends[i].end;
         (start, &self.entries[start..end])
     }
 
-    /// Where Seek lands: the separators lead to a block, in which its entries are halved, or past all blocks.
-    fn seek_place(&self, user: &[u8], seq: u64) -> Option<usize>
-        ensures place { result ≡ way_seek (blocks_of self.now) user.now seq }
-        ensures belongs { IsPlace self.now.entries result }
-        ensures joined { joined (blocks_of self.now) ≡ self.now.entries }
+    /// The i-th data block of a part of `count` data blocks from `first` on; where the part has no such block, no entries
+    /// at the part's end.
+    fn block_in(&self, first: usize, count: usize, i: usize) -> (usize, &[Entry])
+        requires part { first + count ≤ length self.now.ends }
+        requires block { i ≤ count }
+        ensures start { result.0 ≡ start_at 0 self.now.ends (first + i) }
+        ensures entries { i < count → (end : run_end) → slice_get self.now.ends (first + i) ≡ Some end
+            → result.1.now ≡ take (end.end - result.0) (drop result.0 self.now.entries) }
+        ensures none { count ≤ i → result.1.now ≡ [] }
+        ensures ordered { IsOrdered result.1.now }
+        ensures within { result.0 + length result.1.now ≤ length self.now.entries }
     {
-        let i = blocks_before_seek(&self.ends, user, seq);
-        if i < self.ends.len() {
-            let (start, block) = self.block(i);
-            self.place_in(start + below(block, user, seq))
+        if i < count {
+            self.block(first + i)
         } else {
-            None
+            (start_of(self.ends.as_slice(), first + i), &[])
         }
     }
 
-    /// Where SeekForPrev lands: past all blocks it is the last entry.
-    fn seek_for_prev_place(&self, user: &[u8], seq: u64) -> Option<usize>
-        ensures place { result ≡ way_seek_for_prev (blocks_of self.now) user.now seq }
+    /// How many entries Seek passes: the separators of the top block lead to a part, those of the part to a data block, in
+    /// which the entries before the target are halved. None where it goes past all parts.
+    fn seek_passed(&self, user: &[u8], seq: u64) -> Option<usize>
+        ensures passed { result ≡ seek_passed_in None (parts_of self.now) user.now seq }
+    {
+        let part = runs_before_seek(&self.tops, user, seq);
+        let (first, ends) = self.part(part)?;
+        let i = runs_before_seek(ends, user, seq);
+        let (start, block) = self.block_in(first, ends.len(), i);
+        Some(start + below(block, user, seq))
+    }
+
+    /// How many entries SeekForPrev passes: as Seek, and those at the target too.
+    fn prev_passed(&self, user: &[u8], seq: u64) -> Option<usize>
+        ensures passed { result ≡ prev_passed_in None (parts_of self.now) user.now seq }
+        ensures within { IfSome result (λ n. n ≤ length self.now.entries) }
+    {
+        let part = runs_before_seek_for_prev(&self.tops, user, seq);
+        let (first, ends) = self.part(part)?;
+        let i = runs_before_seek_for_prev(ends, user, seq);
+        let (start, block) = self.block_in(first, ends.len(), i);
+        Some(start + up_to(block, user, seq))
+    }
+
+    /// Where Seek lands: after the entries that it passed, be it in the next data block or part; past all parts nowhere.
+    fn seek_place(&self, user: &[u8], seq: u64) -> Option<usize>
+        ensures place { result ≡ seek_in_parts None (parts_of self.now) user.now seq }
         ensures belongs { IsPlace self.now.entries result }
     {
-        let i = blocks_before_seek_for_prev(&self.ends, user, seq);
-        if i < self.ends.len() {
-            let (start, block) = self.block(i);
-            (start + up_to(block, user, seq)).checked_sub(1)
-        } else {
-            self.entries.len().checked_sub(1)
+        let _entries = &self.entries;
+        let passed = self.seek_passed(user, seq)?;
+        self.place_in(passed)
+    }
+
+    /// Where SeekForPrev lands: on the last entry that it passed, be it in the data block or part before; past all parts on
+    /// the last of all.
+    fn seek_for_prev_place(&self, user: &[u8], seq: u64) -> Option<usize>
+        ensures place { result ≡ seek_for_prev_in_parts None (parts_of self.now) user.now seq }
+        ensures belongs { IsPlace self.now.entries result }
+    {
+        match self.prev_passed(user, seq) {
+            Some(passed) => passed.checked_sub(1),
+            None => self.entries.len().checked_sub(1),
         }
     }
 
@@ -118,10 +170,11 @@ impl KeptTable {
     ///
     /// RocksDB: `BlockBasedTable::Get` in table/block_based/block_based_table_reader.cc.
     pub fn get(&self, place: &mut Option<usize>, user: &[u8], seq: u64) -> bool
-        ensures place { place.new ≡ way_get (blocks_of self.now) user.now seq }
+        ensures place { place.new ≡ get_in_parts None (parts_of self.now) user.now seq }
         ensures found { result ≡ is_some place.new }
         ensures belongs { IsPlace self.now.entries place.new }
     {
+        let _entries = &self.entries;
         *place = self.of_user(self.seek_place(user, seq), user);
         place.is_some()
     }
@@ -130,7 +183,7 @@ impl KeptTable {
     ///
     /// RocksDB: `Iterator::SeekToFirst`.
     pub fn first(&self, place: &mut Option<usize>) -> Reply
-        ensures exact { Comes result place.new (way_answer (blocks_of self.now) place.old call.First) }
+        ensures exact { Comes result place.new (answer_in_parts None (parts_of self.now) place.old call.First) }
         ensures belongs { IsPlace self.now.entries place.new }
     {
         let _entries = &self.entries;
@@ -142,19 +195,20 @@ impl KeptTable {
     ///
     /// RocksDB: `Iterator::SeekToLast`.
     pub fn last(&self, place: &mut Option<usize>) -> Reply
-        ensures exact { Comes result place.new (way_answer (blocks_of self.now) place.old call.Last) }
+        ensures exact { Comes result place.new (answer_in_parts None (parts_of self.now) place.old call.Last) }
         ensures belongs { IsPlace self.now.entries place.new }
     {
         *place = self.entries.len().checked_sub(1);
         reply(*place)
     }
 
-    /// Goes to the first entry at or after the target, by the way of the index: to nowhere where every separator is before
-    /// the target.
+    /// Goes to the first entry at or after the target, by the way of the index: to nowhere where every separator of the top
+    /// block is before the target.
     ///
-    /// RocksDB: `BlockBasedTableIterator::Seek` in table/block_based/block_based_table_iterator.cc.
+    /// RocksDB: `BlockBasedTableIterator::Seek` in table/block_based/block_based_table_iterator.cc, `SeekImpl` in
+    /// table/block_based/partitioned_index_iterator.cc.
     pub fn seek(&self, place: &mut Option<usize>, user: &[u8], seq: u64) -> Reply
-        ensures exact { Comes result place.new (way_answer (blocks_of self.now) place.old (call.Seek (record { user = user.now; seq = seq }))) }
+        ensures exact { Comes result place.new (answer_in_parts None (parts_of self.now) place.old (call.Seek (record { user = user.now; seq = seq }))) }
         ensures belongs { IsPlace self.now.entries place.new }
     {
         *place = self.seek_place(user, seq);
@@ -162,11 +216,11 @@ impl KeptTable {
     }
 
     /// Goes to the last entry at or before the target, by the way of the index: to the last of all where every separator
-    /// is before the target.
+    /// of the top block is before the target.
     ///
     /// RocksDB: `BlockBasedTableIterator::SeekForPrev` in table/block_based/block_based_table_iterator.cc.
     pub fn seek_for_prev(&self, place: &mut Option<usize>, user: &[u8], seq: u64) -> Reply
-        ensures exact { Comes result place.new (way_answer (blocks_of self.now) place.old (call.SeekForPrev (record { user = user.now; seq = seq }))) }
+        ensures exact { Comes result place.new (answer_in_parts None (parts_of self.now) place.old (call.SeekForPrev (record { user = user.now; seq = seq }))) }
         ensures belongs { IsPlace self.now.entries place.new }
     {
         *place = self.seek_for_prev_place(user, seq);
@@ -178,7 +232,7 @@ impl KeptTable {
     /// RocksDB: `Iterator::Next`.
     pub fn next(&self, place: &mut Option<usize>) -> Reply
         requires { IsPlace self.now.entries place.old }
-        ensures exact { Comes result place.new (way_answer (blocks_of self.now) place.old call.Next) }
+        ensures exact { Comes result place.new (answer_in_parts None (parts_of self.now) place.old call.Next) }
         ensures belongs { IsPlace self.now.entries place.new }
     {
         match *place {
@@ -196,7 +250,7 @@ impl KeptTable {
     /// RocksDB: `Iterator::Prev`.
     pub fn prev(&self, place: &mut Option<usize>) -> Reply
         requires { IsPlace self.now.entries place.old }
-        ensures exact { Comes result place.new (way_answer (blocks_of self.now) place.old call.Prev) }
+        ensures exact { Comes result place.new (answer_in_parts None (parts_of self.now) place.old call.Prev) }
         ensures belongs { IsPlace self.now.entries place.new }
     {
         match *place {
@@ -208,10 +262,10 @@ impl KeptTable {
         }
     }
 
-    /// The entry at a place of the list, lent. It is one of a block.
+    /// The entry at a place of the list, lent. It is one of a part.
     pub fn entry(&self, place: usize) -> EntryView<'_>
         requires { place < length self.now.entries }
-        ensures { slice_get (joined (blocks_of self.now)) place ≡ Some (entry_of result) }
+        ensures { slice_get (stored_in (parts_of self.now)) place ≡ Some (entry_of result) }
     {
         let entry = &self.entries[place];
         EntryView {

@@ -59,9 +59,9 @@ returns-in-Some-clause-others_at c =
 pub returns-in-Some-clause-kept : goal.returns-in-Some-clause-kept
 returns-in-Some-clause-kept c =
     let free = first-free c.self.inside.seats.items c.in-Some.number (ap (position (λ (taken : Bool). not taken)) (sym c.as_slice.ensures.value) ∙ sym c.free_seat.ensures ∙ c.in-Some.is) in
-    λ blocks keeps. new-kept _ c.args.self.now c.in-Some.number blocks c.self.view_is free keeps
+    λ parts keeps. new-kept _ c.args.self.now c.in-Some.number parts c.self.view_is free keeps
 
 pub returns-in-Some-clause-others_kept : goal.returns-in-Some-clause-others_kept
 returns-in-Some-clause-others_kept c =
     let free = first-free c.self.inside.seats.items c.in-Some.number (ap (position (λ (taken : Bool). not taken)) (sym c.as_slice.ensures.value) ∙ sym c.free_seat.ensures ∙ c.in-Some.is) in
-    λ d blocks place stands. still-kept _ c.args.self.now c.in-Some.number true d blocks place c.self.view_is (not-seated _ c.args.self.now c.in-Some.number d c.self.view_is free stands.belongs) stands
+    λ d parts place stands. still-kept _ c.args.self.now c.in-Some.number true d parts place c.self.view_is (not-seated _ c.args.self.now c.in-Some.number d c.self.view_is free stands.belongs) stands

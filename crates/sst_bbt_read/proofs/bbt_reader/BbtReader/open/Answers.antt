@@ -4,11 +4,11 @@ use Rattle.sst_bbt_read.proofs.OpenedReader.{opens-as, opens-kept, no-damage, no
 use Rattle.sst_bbt_read.proofs.bbt_reader.BbtReader.open.Goals as goal
 
 pub returns-in-Err-clause-stands : goal.returns-in-Err-clause-stands
-returns-in-Err-clause-stands g c = λ file entries told stands fault is. no-damage c.in-Err.stop entries fault (c.in-Err.ensures.stands file entries told stands) is
+returns-in-Err-clause-stands g c = λ file entries told stands fault is. no-damage c.in-Err.stop stands.parts fault (c.in-Err.ensures.stands file entries told stands) is
 
 pub returns-in_ok-reader-in-Ok-clause-told : goal.returns-in_ok-reader-in-Ok-clause-told
 returns-in_ok-reader-in-Ok-clause-told g c = λ file told.
-    opens-as c.in_ok-reader-in-Ok.reader c.in-Ok.table file (ap (λ (r : OpenReader). r.table) c.in_ok-reader-in-Ok.ensures) c.in-Ok.ensures.table (c.in-Ok.ensures.told file told)
+    opens-as c.in_ok-reader-in-Ok.reader c.in-Ok.table file (ap (λ (r : OpenReader). r.table) c.in_ok-reader-in-Ok.ensures) (c.in-Ok.ensures.told file told)
 
 pub returns-in_ok-reader-in-Ok-clause-none : goal.returns-in_ok-reader-in-Ok-clause-none
 returns-in_ok-reader-in-Ok-clause-none g c = λ d belongs.

@@ -5,10 +5,10 @@ use Rattle.sst_bbt_read.proofs.Moved.{came, goes, moved}
 use Rattle.sst_bbt_read.proofs.bbt_reader.BbtReader.seek.Goals as goal
 
 pub returns-clause-way : goal.returns-clause-way
-returns-clause-way g c = λ file blocks place told opens on.
+returns-clause-way g c = λ file parts place told opens on.
     let d : Cursor = record { number = c.args.c.now.number; place = c.seek.new.place } in
     let step = came _ c.args.self.now c.args.c.now d c.seek.result (call.Seek (record { user = c.args.user.now; seq = c.args.seq })) c.self.view_is refl c.seek.ensures.exact c.seek.ensures.belongs in
-    goes c.args.self.now c.args.c.now d c.seek.result (call.Seek (record { user = c.args.user.now; seq = c.args.seq })) step file blocks place opens on
+    goes c.args.self.now c.args.c.now d c.seek.result (call.Seek (record { user = c.args.user.now; seq = c.args.seq })) step file parts place opens on
 
 pub returns-clause-moved : goal.returns-clause-moved
 returns-clause-moved g c = λ file entries place told at.

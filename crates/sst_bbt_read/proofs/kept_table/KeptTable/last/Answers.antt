@@ -1,6 +1,6 @@
 use Rattle.std.proofs.Common.{◌∙◌, arith}
 use Rattle.sst_key.specs.ListMachine.{last_of}
-use Rattle.sst_bbt_read.proofs.Landings.{one_less, last-place}
+use Rattle.sst_bbt_read.proofs.OneLess.{one_less, last-place}
 use Rattle.sst_bbt_read.proofs.Moves.{landed-at}
 use Rattle.sst_bbt_read.proofs.kept_table.KeptTable.last.Goals as goal
 

@@ -11,8 +11,8 @@ use Rattle.sst_block.specs.declared.row_form.RowForm.TheVariants.{Index}
 use Rattle.sst_block.specs.Block.{AreOrdered}
 use Rattle.sst_bbt_spec.specs.Way.{is_separator_before}
 use Rattle.sst_bbt_spec.proofs.SeparatorOrder.{Before, UpTo, ahead, separator-words, separator-from_words}
-use Rattle.sst_bbt_read.specs.TableBlocks.{separator_rows}
-use Rattle.sst_bbt_read.specs.declared.kept_table.BlockEnd.{BlockEnd}
+use Rattle.sst_bbt_read.specs.TableBlocks.{AreSeparators, separator_rows}
+use Rattle.sst_bbt_read.specs.declared.kept_table.RunEnd.{RunEnd}
 
 -- what comes before something that passes passes too
 abbrev pub Falls : {X : Type 0} → (X → Bool) → List X → Type 0
@@ -88,55 +88,54 @@ key-ahead user t a b less passes =
     separator-from_words user a t
     (ahead (user_of a) (user_of b) user (tag_of a) (tag_of b) t (weaker _ _ _ _ sooner) (separator-words user b t passes))
 
--- the separator of the block is before the target
-abbrev pub is_block_before : List ℕ → ℕ → BlockEnd → Bool
-is_block_before user t b = is_separator_before user t b.separator
+-- the separator of the run is before the target
+abbrev pub is_run_before : List ℕ → ℕ → RunEnd → Bool
+is_run_before user t b = is_separator_before user t b.separator
 
 -- the separators that are before a target come first
-pub before-falls : (user : List ℕ) (t : ℕ) (ends : List BlockEnd) → AreOrdered (Index false false) (separator_rows ends) → Falls (is_block_before user t) ends
+pub before-falls : (user : List ℕ) (t : ℕ) (ends : List RunEnd) → AreOrdered (Index false false) (separator_rows ends) → Falls (is_run_before user t) ends
 before-falls user t [] ordered = tt
 before-falls user t (a ∷ []) ordered = tt
 before-falls user t (a ∷ b ∷ rest) ordered =
     (key-ahead user t a.separator b.separator ordered.0, before-falls user t (b ∷ rest) ordered.1)
 
 -- the same, and what is too short for a stored key is before none
-abbrev pub is_stored_before : List ℕ → ℕ → BlockEnd → Bool
+abbrev pub is_stored_before : List ℕ → ℕ → RunEnd → Bool
 is_stored_before user t b = if nat_lt (length b.separator) 8 then false else is_separator_before user t b.separator
 
-stored-same : (user : List ℕ) (t : ℕ) (b : BlockEnd) → 8 ≤ length b.separator → is_stored_before user t b ≡ is_block_before user t b
+stored-same : (user : List ℕ) (t : ℕ) (b : RunEnd) → 8 ≤ length b.separator → is_stored_before user t b ≡ is_run_before user t b
 stored-same user t b long =
     let other : nat_lt (length b.separator) 8 ≡ false = le-ltb (length b.separator) 8 long in
     ap (λ (short : Bool). if short then false else is_separator_before user t b.separator) other
 
-abbrev pub AreLong : List BlockEnd → Type 0
-AreLong ends = All (λ (b : BlockEnd). 8 ≤ length b.separator) ends
+abbrev pub AreLong : List RunEnd → Type 0
+AreLong ends = All (λ (b : RunEnd). 8 ≤ length b.separator) ends
 
-count-same : (user : List ℕ) (t : ℕ) (ends : List BlockEnd) → AreLong ends
-    → count_by (is_stored_before user t) ends ≡ count_by (is_block_before user t) ends
+count-same : (user : List ℕ) (t : ℕ) (ends : List RunEnd) → AreLong ends
+    → count_by (is_stored_before user t) ends ≡ count_by (is_run_before user t) ends
 count-same user t [] long = refl
 count-same user t (b ∷ rest) long =
-    let same = stored-same user t b (All-head (λ (b : BlockEnd). 8 ≤ length b.separator) b rest long) in
-    let more = count-same user t rest (All-tail (λ (b : BlockEnd). 8 ≤ length b.separator) b rest long) in
-    sum_by-cons (λ (y : BlockEnd). cond (is_stored_before user t y) 1 0) b rest
+    let same = stored-same user t b (All-head (λ (b : RunEnd). 8 ≤ length b.separator) b rest long) in
+    let more = count-same user t rest (All-tail (λ (b : RunEnd). 8 ≤ length b.separator) b rest long) in
+    sum_by-cons (λ (y : RunEnd). cond (is_stored_before user t y) 1 0) b rest
     ∙ ap (λ (v : Bool). cond v 1 0 + count_by (is_stored_before user t) rest) same
-    ∙ ap (λ (n : ℕ). cond (is_block_before user t b) 1 0 + n) more
-    ∙ sym (sum_by-cons (λ (y : BlockEnd). cond (is_block_before user t y) 1 0) b rest)
+    ∙ ap (λ (n : ℕ). cond (is_run_before user t b) 1 0 + n) more
+    ∙ sym (sum_by-cons (λ (y : RunEnd). cond (is_run_before user t y) 1 0) b rest)
 
-stored-falls : (user : List ℕ) (t : ℕ) (ends : List BlockEnd) → AreLong ends → Falls (is_block_before user t) ends → Falls (is_stored_before user t) ends
+stored-falls : (user : List ℕ) (t : ℕ) (ends : List RunEnd) → AreLong ends → Falls (is_run_before user t) ends → Falls (is_stored_before user t) ends
 stored-falls user t [] long falls = tt
 stored-falls user t (a ∷ []) long falls = tt
 stored-falls user t (a ∷ b ∷ rest) long falls =
-    let later = All-tail (λ (b : BlockEnd). 8 ≤ length b.separator) a (b ∷ rest) long in
-    let here = stored-same user t a (All-head (λ (b : BlockEnd). 8 ≤ length b.separator) a (b ∷ rest) long) in
-    let next = stored-same user t b (All-head (λ (b : BlockEnd). 8 ≤ length b.separator) b rest later) in
+    let later = All-tail (λ (b : RunEnd). 8 ≤ length b.separator) a (b ∷ rest) long in
+    let here = stored-same user t a (All-head (λ (b : RunEnd). 8 ≤ length b.separator) a (b ∷ rest) long) in
+    let next = stored-same user t b (All-head (λ (b : RunEnd). 8 ≤ length b.separator) b rest later) in
     (λ passes. here ∙ falls.0 (sym next ∙ passes), stored-falls user t (b ∷ rest) later falls.1)
 
-pub blocks-parted : (user : List ℕ) (t : ℕ) (ends : List BlockEnd) → AreLong ends → AreOrdered (Index false false) (separator_rows ends)
-    → IsPartitionedBy (is_stored_before user t) ends
-blocks-parted user t ends long ordered =
-    parted (is_stored_before user t) ends (stored-falls user t ends long (before-falls user t ends ordered))
+pub runs-parted : (user : List ℕ) (t : ℕ) (ends : List RunEnd) → AreSeparators ends → IsPartitionedBy (is_stored_before user t) ends
+runs-parted user t ends are =
+    parted (is_stored_before user t) ends (stored-falls user t ends are.long (before-falls user t ends are.ordered))
 
-pub blocks-count : (user : List ℕ) (t : ℕ) (ends : List BlockEnd) (i : ℕ) → AreLong ends → i ≤ length ends
+pub runs-count : (user : List ℕ) (t : ℕ) (ends : List RunEnd) (i : ℕ) → AreSeparators ends → i ≤ length ends
     → IsPartitionPoint (λ y. is_stored_before user t y ≡ true) (λ y. is_stored_before user t y ≡ false) ends i
-    → i ≡ count_by (is_block_before user t) ends
-blocks-count user t ends i long within point = point-count (is_stored_before user t) ends i within point ∙ count-same user t ends long
+    → i ≡ count_by (is_run_before user t) ends
+runs-count user t ends i are within point = point-count (is_stored_before user t) ends i within point ∙ count-same user t ends are.long
