@@ -10,7 +10,8 @@
 //! - [`loading`]: what files say of themselves, and what is wrong with some.
 //! - [`lengths`]: the longest files that are loaded.
 //! - [`seeking`]: walks that go to a target and to a restart.
-//! - [`index`]: the keys between blocks.
+//! - [`index`]: the keys between blocks, and the bytes of some indexes.
+//! - [`index_walks`]: walks over the pairs of an index block.
 //! - [`laws`]: the laws of these crates, and of what a file stands for.
 #![tactic(auto)]
 
@@ -20,6 +21,8 @@ mod blocks;
 mod footers;
 #[cfg(test)]
 mod index;
+#[cfg(test)]
+mod index_walks;
 #[cfg(test)]
 mod laws;
 #[cfg(test)]
