@@ -92,7 +92,8 @@
 //!   handle ([`an_index_stands_in_a_file`]).
 //! - [`IndexIter`] goes over the pairs of an index block that was checked: each move is one move on their list (`WalksPairs`,
 //!   specs/Walk.antt), and a seek goes to the first pair whose separator isn't before the target
-//!   ([`a_seek_passes_the_pairs_before`]). It takes no memory.
+//!   ([`a_seek_passes_the_pairs_before`]). A walk that is paused keeps an [`IndexPlace`], and goes on over the same bytes later.
+//!   It takes no memory.
 //! - Where memory runs out a call answers so, and so does each later call of that builder that can fail.
 //!
 //! RocksDB: table/block_based/index_builder.h and index_builder.cc, and util/comparator.cc. RocksDB shortens separators in more
