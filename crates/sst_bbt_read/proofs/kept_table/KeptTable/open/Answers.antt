@@ -1,6 +1,7 @@
-use Rattle.std.proofs.Common.{Option, ap, ◌∙◌, arith}
+use Rattle.std.proofs.Common.{Err, Option, ap, ◌∙◌, arith}
 use Rattle.sst_device.specs.Folder.{Files, file_of}
 use Rattle.sst_bbt_read.proofs.LoadedTree.{stopped, loaded_length, after_load, whole_failed}
+use Rattle.sst_bbt_read.proofs.StandsOpened.{opens_to}
 use Rattle.sst_bbt_read.proofs.kept_table.KeptTable.open.Goals as goal
 
 pub returns-in-Err-clause-told : goal.returns-in-Err-clause-told
@@ -26,3 +27,11 @@ returns-in-Ok-clause-folder g c =
           (λ file told. omega (arith, c.end-end.ensures, loaded_length file c.in-Ok.loaded (c.in-Ok.ensures.told file told)))
           (opens.cause failed);
     }
+
+pub returns-in-Ok-clause-stands : goal.returns-in-Ok-clause-stands
+returns-in-Ok-clause-stands g c = λ file entries told stands.
+    opens_to c.open_tree.result file entries stands (returns-in-Ok-clause-told g c file told)
+
+pub returns-in-Err-clause-stands : goal.returns-in-Err-clause-stands
+returns-in-Err-clause-stands g c = λ file entries told stands.
+    opens_to (Err c.meta_stop.result) file entries stands (returns-in-Err-clause-told g c file told)
