@@ -1,9 +1,7 @@
--- A data block whose rows were copied behind the entries before, and where one that isn't good stops.
-use Rattle.std.proofs.Common.{◌≡◌, ℕ, zero, suc, ◌<◌, List, [], ◌∷◌, ◌++◌, length, Err, refl, sym, ap, ◌∙◌, subst, inr, arith}
+-- A data block whose rows were copied behind the entries before, or which has none.
+use Rattle.std.proofs.Common.{◌≡◌, ℕ, zero, suc, ◌<◌, List, [], ◌∷◌, ◌++◌, length, refl, sym, ap, ◌∙◌, subst, inr, arith}
 use Rattle.std.proofs.lemmas.List.{length-map}
 use Rattle.sst_num.specs.declared.block_handle.Handle.{Handle}
-use Rattle.sst_num.specs.declared.stops.Stop.{Stop}
-use Rattle.sst_num.specs.declared.stops.Stop.TheVariants.{Damage, Device, Memory}
 use Rattle.sst_key.specs.declared.entries.Entry.{Entry}
 use Rattle.sst_block.specs.declared.row_form.RowForm.{RowForm}
 use Rattle.sst_block.specs.declared.row_form.RowForm.TheVariants.{Entries}
@@ -12,16 +10,9 @@ use Rattle.sst_device.specs.Framed.{Framed}
 use Rattle.sst_bbt_spec.specs.Rows.{row_of, rows_of}
 use Rattle.sst_bbt_spec.specs.IndexLeads.{HoldsEntries}
 use Rattle.sst_bbt_read.specs.OpeningFaults.{SomeBlockFails}
-use Rattle.sst_bbt_read.specs.Reader.{BlockAdded, Stopped}
+use Rattle.sst_bbt_read.specs.Reader.{BlockAdded}
 use Rattle.sst_bbt_read.specs.TableBlocks.{AreEntries}
-use Rattle.sst_bbt_read.specs.declared.bbt_fault.BbtFault.{BbtFault}
 use Rattle.sst_bbt_read.specs.declared.bbt_fault.BbtFault.TheVariants as bbt
-
--- a stop by one relation is one by a weaker
-pub stop_weaker : (stop : Stop BbtFault) (P Q : BbtFault → Type 0) → ((fault : BbtFault) → P fault → Q fault) → Stopped {A = ℕ} (Err stop) P → Stopped {A = ℕ} (Err stop) Q
-stop_weaker (Damage fault) P Q weaker is = weaker fault is
-stop_weaker Device P Q weaker is = tt
-stop_weaker Memory P Q weaker is = tt
 
 no_rows : (rows : List Row) (count : ℕ) → length rows ≡ count → count ≡ 0 → rows ≡ []
 no_rows [] count many none = refl

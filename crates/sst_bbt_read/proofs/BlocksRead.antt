@@ -1,9 +1,7 @@
 -- Data blocks that are read one behind the other, as the rows of an index block lead to them.
-use Rattle.std.proofs.Common.{◌≡◌, ℕ, ◌+◌, ◌≤◌, false, List, [], ◌∷◌, ◌++◌, length, length-append, take, drop, Option, Some, slice_get, refl, sym, ap, ◌∙◌, subst, arith, add-one}
-use Rattle.std.proofs.Math.Seq.{take-suc}
-use Rattle.std.proofs.lemmas.List.{map-append, take_all, append_assoc, append-nil, take-append-drop}
+use Rattle.std.proofs.Common.{◌≡◌, ℕ, ◌+◌, ◌≤◌, false, List, [], ◌∷◌, ◌++◌, length, length-append, take, drop, Option, Some, slice_get, refl, sym, ap, ◌∙◌, subst, arith}
+use Rattle.std.proofs.lemmas.List.{map-append, take_all, append_assoc, append-nil}
 use Rattle.std.proofs.lemmas.List.Elements.{All-nil, All-push}
-use Rattle.std.proofs.lemmas.Option.{slice_get_within, get_or_from_slice_get}
 use Rattle.sst_key.specs.declared.entries.Entry.{Entry}
 use Rattle.sst_block.specs.declared.row_form.RowForm.TheVariants.{Entries}
 use Rattle.sst_block.specs.IndexRows.{IndexPair}
@@ -19,6 +17,7 @@ use Rattle.sst_bbt_read.specs.declared.bbt_fault.BbtFault.{BbtFault}
 use Rattle.sst_bbt_read.specs.declared.kept_table.RunEnd.{RunEnd}
 use Rattle.sst_bbt_read.specs.declared.kept_table.data_blocks.DataBlocks.{DataBlocks}
 use Rattle.sst_bbt_read.specs.declared.kept_table.index_leads.IndexLead.{IndexLead}
+use Rattle.sst_bbt_read.proofs.ListFront.{first_more, split_at_one}
 use Rattle.sst_bbt_read.proofs.LeadsFollowed.{blocks_lead-push, blocks_fail-behind}
 use Rattle.sst_bbt_read.proofs.TableGrown.{ends-append, ends-one, blocks-append, blocks-one, separators-append}
 
@@ -86,17 +85,6 @@ blocks_more front lead old mid now a block is =
     )
 
 -- ---- the loop
-
--- the first n and the n-th
-pub first_more : {A : Type 0} (xs : List A) (n : ℕ) (x : A) → slice_get xs n ≡ Some x → take n xs ++ x ∷ [] ≡ take (n + 1) xs
-first_more xs n x at =
-    let within = slice_get_within xs n x at in
-    let is = get_or_from_slice_get xs n x x at in
-    sym (rw (add-one, take-suc xs n x, is) refl)
-
-pub split_at_one : {A : Type 0} (xs : List A) (n : ℕ) (x : A) → slice_get xs n ≡ Some x → xs ≡ take n xs ++ x ∷ drop (n + 1) xs
-split_at_one xs n x at =
-    sym (take-append-drop (n + 1) xs) ∙ ap (λ l. l ++ drop (n + 1) xs) (sym (first_more xs n x at)) ∙ append_assoc (take n xs) (x ∷ []) (drop (n + 1) xs)
 
 -- the data blocks of the first n rows were read, and the folder is as it was
 pub record BlocksRead (held now : Option Files) (before faults : ℕ) (name : List ℕ) (end : ℕ) (leads : List IndexLead) (n : ℕ) (old new : DataBlocks) : Type 0 where

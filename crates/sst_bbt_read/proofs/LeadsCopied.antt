@@ -1,10 +1,8 @@
 -- The rows of an index block as they are kept: what they say, with each separator as a stored key.
-use Rattle.std.proofs.Common.{◌≡◌, ℕ, zero, suc, ◌+◌, ◌<◌, ◌≤◌, Bool, true, false, List, [], ◌∷◌, ◌++◌, length, length-append, map, take, All, Some, slice_get, sym, ap, ◌∙◌, subst, refl, arith, add-one}
-use Rattle.std.proofs.Math.Seq.{take-suc}
+use Rattle.std.proofs.Common.{◌≡◌, ℕ, zero, suc, ◌+◌, ◌<◌, ◌≤◌, Bool, true, false, List, [], ◌∷◌, ◌++◌, length, length-append, map, take, All, Some, slice_get, sym, ap, ◌∙◌, subst, arith}
 use Rattle.std.proofs.lemmas.Bool.{lt-ltb}
 use Rattle.std.proofs.lemmas.List.{map-append, length-map, take_all}
 use Rattle.std.proofs.lemmas.List.Elements.{All-nil, All-cons, All-head, All-tail}
-use Rattle.std.proofs.lemmas.Option.{slice_get_within, get_or_from_slice_get}
 use Rattle.std.specs.declared.cmp.Ordering.TheVariants.{Less}
 use Rattle.std.specs.Cmp.Lexicographic.{slice_cmp}
 use Rattle.std.specs.Ordering.{nat_cmp}
@@ -24,6 +22,7 @@ use Rattle.sst_bbt_spec.specs.Parts.{separator_of}
 use Rattle.sst_bbt_spec.proofs.UserKeys.{cmp-alone}
 use Rattle.sst_bbt_read.specs.KeptLeads.{lead_of, leads_of, lead_rows, AreLeads}
 use Rattle.sst_bbt_read.specs.declared.kept_table.index_leads.IndexLead.{IndexLead}
+use Rattle.sst_bbt_read.proofs.ListFront.{first_more}
 
 -- ---- the walk
 
@@ -95,12 +94,6 @@ lead_made user_key key h pair k is =
     ap (λ (l : List ℕ). record { separator = separator_of user_key l; handle = h }) k
     ∙ ap (λ (g : Handle). record { separator = separator_of user_key pair.separator; handle = g }) is
 
-pairs_more : (pairs : List IndexPair) (n : ℕ) (pair : IndexPair) → slice_get pairs n ≡ Some pair → take n pairs ++ pair ∷ [] ≡ take (n + 1) pairs
-pairs_more pairs n pair at =
-    let within = slice_get_within pairs n pair at in
-    let is = get_or_from_slice_get pairs n pair pair at in
-    sym (rw (add-one, take-suc pairs n pair, is) refl)
-
 -- one row more
 pub leads_more : (user_key delta : Bool) (block : List ℕ) (pairs : List IndexPair) (n : ℕ) (leads now : List IndexLead) (key separator : List ℕ) (h : Handle)
     → (is : IndexRows user_key delta block pairs) → KeyAt is.rows n key → (pair : IndexPair) × (slice_get pairs n ≡ Some pair) × (h ≡ pair.handle)
@@ -113,7 +106,7 @@ leads_more user_key delta block pairs n leads now key separator h is (row, at, k
     ∙ ap (λ (l : List ℕ). leads_of user_key (take n pairs) ++ record { separator = l; handle = h } ∷ []) stored
     ∙ ap (λ (l : IndexLead). leads_of user_key (take n pairs) ++ l ∷ []) (lead_made user_key key h pair name same)
     ∙ sym (map-append (lead_of user_key) (take n pairs) (pair ∷ []))
-    ∙ ap (leads_of user_key) (pairs_more pairs n pair there)
+    ∙ ap (leads_of user_key) (first_more pairs n pair there)
 
 -- ---- what is kept
 

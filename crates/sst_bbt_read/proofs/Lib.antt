@@ -12,6 +12,7 @@ pub mod HeldDecided
 pub mod JoinedParts
 pub mod LeadsCopied
 pub mod LeadsFollowed
+pub mod ListFront
 pub mod ListSearch
 pub mod LoadedTree
 pub mod Moved
@@ -30,6 +31,7 @@ pub mod Seated
 pub mod StandsOpened
 pub mod StepRows
 pub mod StepsPass
+pub mod StopsWeaker
 pub mod TableGrown
 pub mod TableRead
 pub mod WayOfParts

@@ -1,12 +1,10 @@
 -- The parts of an index, read one behind the other, as the rows of its top block lead to them.
-use Rattle.std.proofs.Common.{◌≡◌, ◌⊎◌, ℕ, zero, suc, ◌+◌, ◌==◌, ◌<◌, ◌≤◌, Bool, true, false, List, [], ◌∷◌, ◌++◌, length, length-append, map, take, drop, All, Option, Some, slice_get, Result, Ok, Err, OnOk, refl, sym, ap, ◌∙◌, subst, inl, inr, arith}
+use Rattle.std.proofs.Common.{◌≡◌, ◌⊎◌, ℕ, zero, suc, ◌+◌, ◌==◌, ◌<◌, ◌≤◌, Bool, true, false, List, [], ◌∷◌, ◌++◌, length, length-append, map, take, drop, All, Option, Some, slice_get, refl, sym, ap, ◌∙◌, subst, inl, inr, arith}
 use Rattle.std.proofs.lemmas.Bool.{eqb-true}
 use Rattle.std.proofs.lemmas.List.{map-append, length-map, take_all, nil_from_length}
 use Rattle.std.proofs.lemmas.List.Elements.{All-nil, All-cons, All-append, All-get_or}
 use Rattle.std.proofs.lemmas.Option.{slice_get_within, get_or_from_slice_get}
 use Rattle.sst_num.specs.declared.block_handle.Handle.{Handle}
-use Rattle.sst_num.specs.declared.stops.Stop.{Stop}
-use Rattle.sst_num.specs.declared.stops.Stop.TheVariants.{Damage, Device, Memory}
 use Rattle.sst_key.specs.declared.entries.Entry.{Entry}
 use Rattle.sst_block.specs.declared.row_form.RowForm.TheVariants.{Index}
 use Rattle.sst_block.specs.Block.{Row, Spelled, Block, no_handle}
@@ -19,29 +17,17 @@ use Rattle.sst_bbt_spec.specs.Way.{IndexedBlock}
 use Rattle.sst_bbt_read.specs.GrownTable.{BlocksAdded, PartAdded, separators_of, lead_separators}
 use Rattle.sst_bbt_read.specs.KeptLeads.{AreLeads, lead_of, leads_of, pairs_of}
 use Rattle.sst_bbt_read.specs.OpeningFaults.{BlockFails, SomeBlockFails, BlocksFail, WithinFails, PartsFail}
-use Rattle.sst_bbt_read.specs.Reader.{Stopped}
 use Rattle.sst_bbt_read.specs.TableBlocks.{IsOpenTable, AreEnds, AreEntries, AreWithin, blocks_from, parts_from}
 use Rattle.sst_bbt_read.specs.declared.bbt_fault.BbtFault.{BbtFault}
 use Rattle.sst_bbt_read.specs.declared.bbt_fault.BbtFault.TheVariants as bbt
 use Rattle.sst_bbt_read.specs.declared.kept_table.RunEnd.{RunEnd}
 use Rattle.sst_bbt_read.specs.declared.kept_table.data_blocks.DataBlocks.{DataBlocks}
 use Rattle.sst_bbt_read.specs.declared.kept_table.index_leads.IndexLead.{IndexLead}
-use Rattle.sst_bbt_read.proofs.BlocksRead.{first_more, split_at_one}
+use Rattle.sst_bbt_read.proofs.ListFront.{first_more, split_at_one}
 use Rattle.sst_bbt_read.proofs.LeadsFollowed.{kept_lead, kept_fail, parts_lead-push, parts_fail-behind}
 use Rattle.sst_bbt_read.proofs.TableGrown.{ends-append, ends-one, blocks-append, blocks-count, parts-push, within-push, separators-append, separators-are}
 
 -- ---- a part
-
--- an answer by one relation is one by a weaker
-pub stopped_weaker : {A : Type 0} (result : Result A (Stop BbtFault)) (P Q : BbtFault → Type 0) → ((fault : BbtFault) → P fault → Q fault) → Stopped result P → Stopped result Q
-stopped_weaker (Ok x) P Q weaker is = tt
-stopped_weaker (Err (Damage fault)) P Q weaker is = weaker fault is
-stopped_weaker (Err Device) P Q weaker is = tt
-stopped_weaker (Err Memory) P Q weaker is = tt
-
-pub ok_weaker : {A : Type 0} (result : Result A (Stop BbtFault)) (P Q : Type 0) → (P → Q) → OnOk result P → OnOk result Q
-ok_weaker (Ok x) P Q weaker is = weaker is
-ok_weaker (Err stop) P Q weaker is = tt
 
 -- its block isn't good
 pub part_fails : (file : List ℕ) (end : ℕ) (form : IndexForm) (h : Handle) (pair : IndexPair) (fault : BbtFault) → pair.handle ≡ h

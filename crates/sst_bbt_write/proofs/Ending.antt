@@ -16,7 +16,7 @@ use Rattle.sst_meta.proofs.FramedParts.{length-frame}
 use Rattle.sst_bbt_spec.specs.Rows.{rows_of}
 use Rattle.sst_bbt_write.specs.declared.bbt_writer.BbtWriter.{BbtWriter}
 use Rattle.sst_bbt_write.specs.Cut.{Blocks, data_block, entries_in}
-use Rattle.sst_bbt_write.specs.Keeps.{Ends, Keeps, ended_now}
+use Rattle.sst_bbt_write.specs.Keeps.{MayEnd, Keeps, ended_now}
 use Rattle.sst_bbt_write.specs.Written.{Fits, data_part, ends_from, index_options, next_key}
 use Rattle.sst_bbt_write.proofs.BlockEnds.{end_at, ends_from-more, ends-are}
 use Rattle.sst_bbt_write.proofs.CutSteps.{AreOf, of-ended}
@@ -55,7 +55,7 @@ end-is : (options : BbtOptions) (last : List ℕ) (next : Option (List ℕ)) (of
 end-is options last next offset size at block key place long = rw (key, place, long) refl
 
 pub is_given : (w : BbtWriter) (last : List ℕ) (next : Option (List ℕ)) (coming : List Entry) (cut : Blocks) (entries : List Entry) (bytes : List ℕ) (size : ℕ)
-    → Ends w next coming cut entries bytes → last ≡ w.last.items → size ≡ length (data_block w.options cut.current) → IsGiven w last next cut size
+    → MayEnd w next coming cut entries bytes → last ≡ w.last.items → size ≡ length (data_block w.options cut.current) → IsGiven w last next cut size
 is_given w last next coming cut entries bytes size ending last_is long =
     let kept = ending.keeps in
     let rows = kept.rows in
@@ -85,7 +85,7 @@ is_given w last next coming cut entries bytes size ending last_is long =
 
 -- the index takes it
 pub index_takes : (w : BbtWriter) (last : List ℕ) (next : Option (List ℕ)) (coming : List Entry) (cut : Blocks) (entries : List Entry) (bytes : List ℕ) (size : ℕ)
-    → Ends w next coming cut entries bytes → last ≡ w.last.items → size ≡ length (data_block w.options cut.current) → CanAdd w.index (given_end w last next size)
+    → MayEnd w next coming cut entries bytes → last ≡ w.last.items → size ≡ length (data_block w.options cut.current) → CanAdd w.index (given_end w last next size)
 index_takes w last next coming cut entries bytes size ending last_is long =
     let given = is_given w last next coming cut entries bytes size ending last_is long in
     inr (record {
@@ -97,7 +97,7 @@ index_takes w last next coming cut entries bytes size ending last_is long =
 
 -- what the writer then keeps
 pub ended_keeps : (w : BbtWriter) (last : List ℕ) (next : Option (List ℕ)) (coming : List Entry) (cut : Blocks) (entries : List Entry) (bytes : List ℕ) (size : ℕ)
-    → Ends w next coming cut entries bytes → last ≡ w.last.items → size ≡ length (data_block w.options cut.current)
+    → MayEnd w next coming cut entries bytes → last ≡ w.last.items → size ≡ length (data_block w.options cut.current)
     → (empty : BlockBuilder) → builder.Holds empty Entries w.options.restart []
     → (block : List ℕ) → block ≡ data_block w.options cut.current
     → (index : IndexBuilder)

@@ -10,7 +10,7 @@ use Rattle.sst_bbt_write.specs.declared.bbt_writer.BbtWriter.{BbtWriter}
 use Rattle.sst_bbt_write.specs.declared.bbt_options.BbtOptions.{BbtOptions}
 use Rattle.sst_bbt_write.specs.After.{After}
 use Rattle.sst_bbt_write.specs.Cut.{Blocks, cut_of}
-use Rattle.sst_bbt_write.specs.Keeps.{Ends, HasEntry, Keeps, with_room, with_entry}
+use Rattle.sst_bbt_write.specs.Keeps.{MayEnd, HasEntry, Keeps, with_room, with_entry}
 use Rattle.sst_bbt_write.specs.Written.{Fits, MayBeChosen, ends_from, index_options, next_key}
 use Rattle.sst_bbt_write.proofs.CutSteps.{cut_of-steps}
 use Rattle.sst_bbt_write.proofs.Rows.{Fits-nil}
@@ -20,7 +20,7 @@ pub kept-some : (w : BbtWriter) (next : Option (List ℕ)) (cut : Blocks) (entri
 kept-some w next cut entries bytes kept some = let rows = kept.rows in omega arith
 
 -- the last block may be ended
-pub ends-last : (w : BbtWriter) (cut : Blocks) (entries : List Entry) (bytes : List ℕ) → Keeps w None cut entries bytes → 0 < w.rows → Ends w None [] cut entries bytes
+pub ends-last : (w : BbtWriter) (cut : Blocks) (entries : List Entry) (bytes : List ℕ) → Keeps w None cut entries bytes → 0 < w.rows → MayEnd w None [] cut entries bytes
 ends-last w cut entries bytes kept some =
     record { keeps = kept; some = some; key = refl; fits = subst Fits (sym (append-nil entries)) kept.fits }
 
@@ -37,10 +37,10 @@ after-added w options entries e bytes same kept =
 pub room-of : (w : BbtWriter) (options : BbtOptions) (cut : Blocks) → w.options ≡ options → with_room w.options cut ≡ with_room options cut
 room-of w options cut same = ap (λ (o : BbtOptions). with_room o cut) same
 
--- what a writer keeps it keeps with another key at hand, told of another entry behind the list
-pub keeps-with : (w new : BbtWriter) (next told : Option (List ℕ)) (cut : Blocks) (entries : List Entry) (bytes : List ℕ) → Keeps w next cut entries bytes
-    → index.Holds w.index (index_options w.options) (ends_from w.options 0 cut.ended (next_key (cut.current ∷ []) told))
-    → new ≡ record {
+-- the other writer is this one, but for the key at hand
+abbrev pub IsAlike : BbtWriter → BbtWriter → Type 0
+IsAlike w new =
+    new ≡ record {
       alloc = w.alloc;
       options = w.options;
       block = w.block;
@@ -55,7 +55,12 @@ pub keeps-with : (w new : BbtWriter) (next told : Option (List ℕ)) (cut : Bloc
       values = w.values;
       weight = w.weight;
       failed = w.failed;
-    } → Keeps new told cut entries bytes
+    }
+
+-- what a writer keeps it keeps with another key at hand, told of another entry behind the list
+pub keeps-with : (w new : BbtWriter) (next told : Option (List ℕ)) (cut : Blocks) (entries : List Entry) (bytes : List ℕ) → Keeps w next cut entries bytes
+    → index.Holds w.index (index_options w.options) (ends_from w.options 0 cut.ended (next_key (cut.current ∷ []) told))
+    → IsAlike w new → Keeps new told cut entries bytes
 keeps-with w new next told cut entries bytes kept holds same =
     subst (λ (b : BbtWriter). Keeps b told cut entries bytes) (sym same)
     (record {
@@ -78,22 +83,7 @@ keeps-with w new next told cut entries bytes kept holds same =
     })
 
 pub keeps-other : (w new : BbtWriter) (next : Option (List ℕ)) (cut : Blocks) (entries : List Entry) (bytes : List ℕ) → Keeps w next cut entries bytes
-    → new ≡ record {
-      alloc = w.alloc;
-      options = w.options;
-      block = w.block;
-      rows = w.rows;
-      index = w.index;
-      blocks = w.blocks;
-      data_size = w.data_size;
-      last = w.last;
-      key = new.key;
-      count = w.count;
-      keys = w.keys;
-      values = w.values;
-      weight = w.weight;
-      failed = w.failed;
-    } → Keeps new next cut entries bytes
+    → IsAlike w new → Keeps new next cut entries bytes
 keeps-other w new next cut entries bytes kept same = keeps-with w new next next cut entries bytes kept kept.index same
 
 -- a writer keeps the list of no entry

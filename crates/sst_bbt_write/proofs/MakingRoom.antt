@@ -8,7 +8,7 @@ use Rattle.sst_index.specs.Index as index
 use Rattle.sst_bbt_write.specs.declared.bbt_writer.BbtWriter.{BbtWriter}
 use Rattle.sst_bbt_write.specs.declared.bbt_options.BbtOptions.{BbtOptions}
 use Rattle.sst_bbt_write.specs.Cut.{Blocks, cut_of, is_full}
-use Rattle.sst_bbt_write.specs.Keeps.{Awaits, Ends, Keeps, ended_now, with_room}
+use Rattle.sst_bbt_write.specs.Keeps.{Awaits, MayEnd, Keeps, ended_now, with_room}
 use Rattle.sst_bbt_write.specs.Written.{Fits, ends_from, index_options, next_key}
 use Rattle.sst_bbt_write.proofs.Keeping.{keeps-with}
 use Rattle.sst_bbt_write.proofs.CutSteps.{cut_of-begun, full-some, room-full, room-short}
@@ -32,7 +32,7 @@ keeps-told w e cut entries bytes awaits =
 
 -- the block that is full may be ended before the entry
 pub ends-full : (w new : BbtWriter) (e : Entry) (cut : Blocks) (entries : List Entry) (bytes key : List ℕ) → Awaits w e cut entries bytes → is_full w.options cut.current ≡ true
-    → Keeps new None cut entries bytes → key ≡ key_of e → Ends new (Some key) (e ∷ []) cut entries bytes
+    → Keeps new None cut entries bytes → key ≡ key_of e → MayEnd new (Some key) (e ∷ []) cut entries bytes
 ends-full w new e cut entries bytes key awaits full kept key_is =
     let some = full-some w.options cut.current full in
     let rows = kept.rows in

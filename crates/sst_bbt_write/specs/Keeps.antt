@@ -64,7 +64,7 @@ pub record Awaits (w : BbtWriter) (e : Entry) (cut : Blocks) (entries : List Ent
 
 -- the data block may be ended: it has an entry, and the list goes on with these entries, the first of which has that key
 -- For proofs alone.
-pub record Ends (w : BbtWriter) (next : Option (List ℕ)) (coming : List Entry) (cut : Blocks) (entries : List Entry) (bytes : List ℕ) : Type 0 where
+pub record MayEnd (w : BbtWriter) (next : Option (List ℕ)) (coming : List Entry) (cut : Blocks) (entries : List Entry) (bytes : List ℕ) : Type 0 where
   pub keeps : Keeps w None cut entries bytes
   pub some : 0 < w.rows
   pub key : next ≡ next_key (coming ∷ []) None

@@ -15,7 +15,7 @@ ghost use Rattle.sst_bbt_write.specs.Reasons.{reason, is_after};
 ghost use Rattle.sst_bbt_spec.specs.Rows.{rows_of};
 ghost use Rattle.sst_bbt_write.specs.Cut.{Blocks, is_full};
 ghost use Rattle.sst_key.specs.Limits.{weight_limit};
-ghost use Rattle.sst_bbt_write.specs.Keeps.{Awaits, Ends, Keeps, KeepsSome, all_ended, ended_now, ended_last, with_room, with_entry};
+ghost use Rattle.sst_bbt_write.specs.Keeps.{Awaits, MayEnd, Keeps, KeepsSome, all_ended, ended_now, ended_last, with_room, with_entry};
 ghost use Rattle.sst_bbt_write.specs.Written.{Fits, MayBeChosen, Written, end_part, sizes_of};
 ghost use Rattle.sst_bbt_write.specs.declared.bbt_options.BbtOptions.{BbtOptions};
 
@@ -253,9 +253,9 @@ impl BbtWriter {
     /// RocksDB: `BlockBasedTableBuilder::Flush` in table/block_based/block_based_table_builder.cc, and
     /// `IndexBuilder::AddIndexEntry` in table/block_based/index_builder.h.
     fn end_block(&mut self, next: Option<&[u8]>, out: &mut Vec<u8>) -> Result<(), Memory>
-        requires { (coming : List Entry) × (cut : Blocks) × (entries : List Entry) × (bytes : List ℕ) × Ends self.old (option_map (λ b. b.now) next) coming cut entries bytes }
+        requires { (coming : List Entry) × (cut : Blocks) × (entries : List Entry) × (bytes : List ℕ) × MayEnd self.old (option_map (λ b. b.now) next) coming cut entries bytes }
         ensures ok { OnOk result ((coming : List Entry) (cut : Blocks) (entries : List Entry) (bytes : List ℕ)
-            → Ends self.old (option_map (λ b. b.now) next.entry) coming cut entries bytes
+            → MayEnd self.old (option_map (λ b. b.now) next.entry) coming cut entries bytes
             → (piece : List ℕ) × (out.new.items ≡ out.old.items ++ piece)
             × Keeps self.new (option_map (λ b. b.now) next.entry) (ended_now cut) entries (bytes ++ piece)) }
         ensures grows { (rest : List ℕ) × (out.new.items ≡ out.old.items ++ rest) }

@@ -10,9 +10,10 @@ use Rattle.sst_key.specs.declared.calls.Call.TheVariants as calls
 use Rattle.sst_key.specs.declared.calls.Reply.{Reply}
 use Rattle.sst_key.specs.declared.calls.Target.{Target}
 use Rattle.sst_key.specs.declared.calls.Reply.TheVariants as reply
-use Rattle.sst_key.specs.ListMachine.{lands, shows}
+use Rattle.sst_key.specs.ListMachine.{lands, shows, steps_on}
 use Rattle.sst_bbt_spec.specs.Parts.{Part, stored_in}
 use Rattle.sst_bbt_spec.specs.PartWay.{answer_in_parts, get_in_parts}
+use Rattle.sst_bbt_spec.proofs.PartLaws.{shown-none}
 use Rattle.sst_bbt_read.specs.Cursors.{entry_shown}
 use Rattle.sst_bbt_read.specs.Kept.{Answers, AnswersGet, StandsOn}
 use Rattle.sst_bbt_read.specs.Positions.{AreTwo, IsSame}
@@ -88,7 +89,10 @@ move-shown parts position calls.First is = lands-shown (stored_in parts) _
 move-shown parts position calls.Last is = lands-shown (stored_in parts) _
 move-shown parts position (calls.Seek target) is = lands-shown (stored_in parts) _
 move-shown parts position (calls.SeekForPrev target) is = lands-shown (stored_in parts) _
-move-shown parts position calls.Next is = on-shown (stored_in parts) position
+move-shown parts position calls.Next is =
+    subst
+    (λ (es : List Entry). entry_shown (stored_in parts) (steps_on es position) ≡ option_and_then (λ i. slice_get (stored_in parts) i) (steps_on es position).position)
+    (sym (shown-none (stored_in parts))) (on-shown (stored_in parts) position)
 move-shown parts position calls.Prev is = back-shown (stored_in parts) position
 
 pub move-line : (parts : List Part) (call : Call) (position : Option ℕ) → IsMove call

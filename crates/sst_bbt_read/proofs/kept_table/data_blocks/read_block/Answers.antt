@@ -1,16 +1,17 @@
-use Rattle.std.proofs.Common.{ℕ, List, inl, sym, subst, arith}
+use Rattle.std.proofs.Common.{Err, ℕ, List, inl, sym, subst, arith}
 use Rattle.std.proofs.lemmas.Result.{err_from_is_err_and}
 use Rattle.sst_block.specs.declared.row_form.RowForm.TheVariants.{Entries}
 use Rattle.sst_block.specs.Block.{Block}
 use Rattle.sst_device.specs.Framed.{Framed}
 use Rattle.sst_bbt_read.specs.OpeningFaults.{BlockFails, SomeBlockFails}
-use Rattle.sst_bbt_read.proofs.BlockHeld.{stop_weaker, block_empty, block_added, entries_held}
+use Rattle.sst_bbt_read.proofs.BlockHeld.{block_empty, block_added, entries_held}
+use Rattle.sst_bbt_read.proofs.StopsWeaker.{stopped_weaker}
 use Rattle.sst_bbt_read.proofs.kept_table.data_blocks.read_block.Goals as goal
 
 pub returns-in_err-block-clause-told : goal.returns-in_err-block-clause-told
 returns-in_err-block-clause-told g c = λ file told.
     let p = err_from_is_err_and c.from_residual.result c.from_residual.ensures.1 in
-    rw (p.1) (stop_weaker p.0 (BlockFails Entries file c.args.end c.args.handle) (SomeBlockFails Entries file c.args.end c.args.handle) (λ fault is. inl is)
+    rw (p.1) (stopped_weaker {A = ℕ} (Err p.0) (BlockFails Entries file c.args.end c.args.handle) (SomeBlockFails Entries file c.args.end c.args.handle) (λ fault is. inl is)
     (rw (p.2) (c.in_err-block.ensures.told file told)))
 
 pub returns-then-block-eq0-clause-told : goal.returns-then-block-eq0-clause-told

@@ -1,13 +1,13 @@
-use Rattle.std.proofs.Common.{◌≡◌, Option, Some, refl, inl, inr, sym, ap, ◌∙◌, arith}
+use Rattle.std.proofs.Common.{ℕ, Err, ◌≡◌, Option, Some, refl, inl, inr, sym, ap, ◌∙◌, arith}
 use Rattle.std.proofs.lemmas.Option.{slice_get-get_or}
 use Rattle.std.proofs.lemmas.Result.{err_from_is_err_and}
 use Rattle.sst_block.specs.declared.row_form.RowForm.TheVariants.{Entries}
 use Rattle.sst_device.specs.Folder.{Files, file_of}
 use Rattle.sst_bbt_read.specs.KeptLeads.{pairs_of}
 use Rattle.sst_bbt_read.specs.OpeningFaults.{SomeBlockFails, BlocksFail}
-use Rattle.sst_bbt_read.proofs.BlockHeld.{stop_weaker}
 use Rattle.sst_bbt_read.proofs.BlocksRead.{blocks_none, lead_fails, blocks_read-more, blocks_read-all}
 use Rattle.sst_bbt_read.proofs.ReadsLater.{reads_passed, reads_none}
+use Rattle.sst_bbt_read.proofs.StopsWeaker.{stopped_weaker}
 use Rattle.sst_bbt_read.proofs.kept_table.data_blocks.read_blocks.Goals as goal
 
 pub loop-lead-init : goal.loop-lead-init
@@ -19,7 +19,7 @@ returns-in_err-add_block-clause-told g c = λ file told.
     let known = ap (λ (h : Option Files). file_of h c.args.name.now) so.same_files ∙ told in
     let at = slice_get-get_or c.args.leads.now c.loop-lead.lead-index c.lead-item.result c.loop-lead-test.true ∙ ap Some (sym c.lead-item.is) in
     let p = err_from_is_err_and c.from_residual.result c.from_residual.ensures.1 in
-    rw (p.1) (stop_weaker p.0 (SomeBlockFails Entries file c.args.end c.lead-item.result.handle) (BlocksFail file c.args.end (pairs_of c.args.leads.now))
+    rw (p.1) (stopped_weaker {A = ℕ} (Err p.0) (SomeBlockFails Entries file c.args.end c.lead-item.result.handle) (BlocksFail file c.args.end (pairs_of c.args.leads.now))
     (λ fault is. lead_fails file c.args.end c.args.leads.now c.loop-lead.lead-index c.lead-item.result so.added.blocks fault at (so.read file told) is)
     (rw (p.2) (c.in_err-add_block.ensures.told file known)))
 

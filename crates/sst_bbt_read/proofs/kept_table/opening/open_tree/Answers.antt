@@ -1,18 +1,17 @@
-use Rattle.std.proofs.Common.{◌≡◌, Option, inl, inr, sym, ap, ◌∙◌, subst}
+use Rattle.std.proofs.Common.{ℕ, Err, ◌≡◌, Option, inl, inr, sym, ap, ◌∙◌, subst}
 use Rattle.std.proofs.lemmas.Result.{err_from_is_err_and, IfOk-weaker}
 use Rattle.sst_block.specs.declared.row_form.RowForm.TheVariants.{Index}
 use Rattle.sst_device.specs.Folder.{Files, file_of}
 use Rattle.sst_bbt_read.specs.KeptLeads.{AreLeads}
 use Rattle.sst_bbt_read.specs.OpeningFaults.{BlockFails, PartsFail, TreeFails}
-use Rattle.sst_bbt_read.proofs.BlockHeld.{stop_weaker}
-use Rattle.sst_bbt_read.proofs.PartsRead.{stopped_weaker}
 use Rattle.sst_bbt_read.proofs.ReadsLater.{reads_later}
+use Rattle.sst_bbt_read.proofs.StopsWeaker.{stopped_weaker}
 use Rattle.sst_bbt_read.proofs.kept_table.opening.open_tree.Goals as goal
 
 pub returns-in_err-leads-clause-told : goal.returns-in_err-leads-clause-told
 returns-in_err-leads-clause-told g c = λ file told.
     let p = err_from_is_err_and c.from_residual.result c.from_residual.ensures.1 in
-    rw (p.1) (stop_weaker p.0 (BlockFails (Index c.args.form.user_key c.args.form.delta) file c.args.end c.args.handle) (TreeFails file c.args.end c.args.form c.args.handle)
+    rw (p.1) (stopped_weaker {A = ℕ} (Err p.0) (BlockFails (Index c.args.form.user_key c.args.form.delta) file c.args.end c.args.handle) (TreeFails file c.args.end c.args.form c.args.handle)
     (λ fault is. inl is) (rw (p.2) (c.in_err-leads.ensures.told file told)))
 
 pub read_parts-requires : goal.read_parts-requires

@@ -1,18 +1,18 @@
-use Rattle.std.proofs.Common.{◌≡◌, true, Option, inl, inr, ap, ◌∙◌, sym, subst, arith}
+use Rattle.std.proofs.Common.{ℕ, Err, ◌≡◌, true, Option, inl, inr, ap, ◌∙◌, sym, subst, arith}
 use Rattle.std.proofs.lemmas.Result.{err_from_is_err_and}
 use Rattle.sst_block.specs.declared.row_form.RowForm.TheVariants.{Index}
 use Rattle.sst_device.specs.Folder.{Files, file_of}
 use Rattle.sst_bbt_read.specs.KeptLeads.{AreLeads, pairs_of}
 use Rattle.sst_bbt_read.specs.OpeningFaults.{BlockFails, BlocksFail, WithinFails}
-use Rattle.sst_bbt_read.proofs.BlockHeld.{stop_weaker}
-use Rattle.sst_bbt_read.proofs.PartsRead.{part_fails, part_empty, part_held, part_blocks_fail, stopped_weaker, ok_weaker, none_from, some_from}
+use Rattle.sst_bbt_read.proofs.PartsRead.{part_fails, part_empty, part_held, part_blocks_fail, none_from, some_from}
 use Rattle.sst_bbt_read.proofs.ReadsLater.{reads_later}
+use Rattle.sst_bbt_read.proofs.StopsWeaker.{ok_weaker, stopped_weaker}
 use Rattle.sst_bbt_read.proofs.kept_table.opening.read_part.Goals as goal
 
 pub returns-in_err-leads-clause-told : goal.returns-in_err-leads-clause-told
 returns-in_err-leads-clause-told g c = λ file told pair same.
     let p = err_from_is_err_and c.from_residual.result c.from_residual.ensures.1 in
-    rw (p.1) (stop_weaker p.0 (BlockFails (Index c.args.form.user_key c.args.form.delta) file c.args.end c.args.handle) (WithinFails true file c.args.end c.args.form pair)
+    rw (p.1) (stopped_weaker {A = ℕ} (Err p.0) (BlockFails (Index c.args.form.user_key c.args.form.delta) file c.args.end c.args.handle) (WithinFails true file c.args.end c.args.form pair)
     (λ fault is. part_fails file c.args.end c.args.form c.args.handle pair fault same is) (rw (p.2) (c.in_err-leads.ensures.told file told)))
 
 pub returns-then-is_empty-clause-told : goal.returns-then-is_empty-clause-told

@@ -1,13 +1,13 @@
-use Rattle.std.proofs.Common.{◌≡◌, List, Option, Some, slice_get, inl, inr, sym, ap, ◌∙◌, arith}
+use Rattle.std.proofs.Common.{ℕ, Err, ◌≡◌, List, Option, Some, slice_get, inl, inr, sym, ap, ◌∙◌, arith}
 use Rattle.std.proofs.lemmas.Option.{slice_get-get_or}
 use Rattle.std.proofs.lemmas.Result.{err_from_is_err_and}
 use Rattle.sst_device.specs.Folder.{Files, file_of}
 use Rattle.sst_bbt_read.specs.OpeningFaults.{WithinFails, PartsFail}
 use Rattle.sst_bbt_read.specs.declared.kept_table.index_leads.IndexLead.{IndexLead}
-use Rattle.sst_bbt_read.proofs.BlockHeld.{stop_weaker}
 use Rattle.sst_bbt_read.proofs.BlocksRead.{end_again}
 use Rattle.sst_bbt_read.proofs.PartsRead.{parts_none, lead_long, pair_of_lead, row_fails, parts_read-more, parts_table, all_led}
 use Rattle.sst_bbt_read.proofs.ReadsLater.{reads_passed, reads_none}
+use Rattle.sst_bbt_read.proofs.StopsWeaker.{stopped_weaker}
 use Rattle.sst_bbt_read.proofs.kept_table.opening.read_parts.Goals as goal
 
 pub loop-lead-init : goal.loop-lead-init
@@ -28,7 +28,7 @@ returns-in_err-read_within-clause-told g c = λ file told pairs kept.
     let at = slice_get-get_or c.args.leads.now n c.lead-item.result c.loop-lead-test.true ∙ ap Some (sym c.lead-item.is) in
     let said = pair_of_lead c.args.form.user_key pairs n c.lead-item.result (ap (λ (ls : List IndexLead). slice_get ls n) (sym kept) ∙ at) in
     let p = err_from_is_err_and c.from_residual.result c.from_residual.ensures.1 in
-    rw (p.1) (stop_weaker p.0 (WithinFails c.args.form.parted file c.args.end c.args.form said.0) (PartsFail file c.args.end c.args.form pairs)
+    rw (p.1) (stopped_weaker {A = ℕ} (Err p.0) (WithinFails c.args.form.parted file c.args.end c.args.form said.0) (PartsFail file c.args.end c.args.form pairs)
     (λ fault is. row_fails file c.args.end c.args.form c.args.leads.now pairs n c.lead-item.result _ fault said.0 said.1 (so.read file told pairs kept) is)
     (rw (p.2) (c.in_err-read_within.ensures.told file known said.0 said.2)))
 

@@ -4,7 +4,8 @@ use Rattle.sst_bbt_read.specs.KeptLeads.{AreLeads, pairs_of}
 use Rattle.sst_bbt_read.specs.OpeningFaults.{BlocksFail, WithinFails}
 use Rattle.sst_bbt_read.specs.Reader.{Stopped}
 use Rattle.sst_bbt_read.specs.declared.kept_table.index_leads.IndexLead.{IndexLead}
-use Rattle.sst_bbt_read.proofs.PartsRead.{one_lead, whole_held, whole_fails, ok_weaker, stopped_weaker}
+use Rattle.sst_bbt_read.proofs.PartsRead.{one_lead, whole_held, whole_fails}
+use Rattle.sst_bbt_read.proofs.StopsWeaker.{ok_weaker, stopped_weaker}
 use Rattle.sst_bbt_read.proofs.kept_table.opening.read_within.Goals as goal
 
 pub returns-then-form-clause-added : goal.returns-then-form-clause-added

@@ -1,7 +1,7 @@
-use Rattle.std.proofs.Common.{refl, arith, ◌∙◌}
+use Rattle.std.proofs.Common.{None, refl, arith, ◌∙◌}
 use Rattle.sst_bbt_spec.specs.PartWay.{answer_in_parts}
 use Rattle.sst_device.proofs.Pieces.{OnErr-always}
-use Rattle.sst_cli.proofs.AnsweredBy.{some-blocks, some-both}
+use Rattle.sst_cli.proofs.AnsweredBy.{some-parts, some-both}
 use Rattle.sst_cli.proofs.AnswersPrinted.{puts, is_prefix, is_prefix_cut, ended, ended_cut, next_call}
 use Rattle.sst_cli.proofs.output.answers.print_lines.Goals as goal
 

@@ -1,6 +1,7 @@
+use Rattle.std.proofs.Common.{None}
 use Rattle.sst_key.specs.ListMachine.{lands}
 use Rattle.sst_bbt_spec.specs.PartWay.{answer_in_parts, get_in_parts}
-use Rattle.sst_cli.proofs.AnsweredBy.{quiet-move, quiet-get, stands-after, get-answers, get-line, more-text, some-blocks, some-both, first-of, second-of, other-on}
+use Rattle.sst_cli.proofs.AnsweredBy.{quiet-move, quiet-get, stands-after, get-answers, get-line, more-text, some-parts, some-both, first-of, second-of, other-on}
 use Rattle.sst_cli.proofs.output.answers.put_answer.Goals as goal
 
 pub put_line-requires : goal.put_line-requires
