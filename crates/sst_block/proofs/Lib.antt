@@ -10,6 +10,7 @@ pub mod Held
 pub mod Kept
 pub mod Meeting
 pub mod Parts
+pub mod Pausing
 pub mod Pass
 pub mod Varints
 pub mod OneReading

@@ -6,9 +6,11 @@ ghost use Rattle.sst_block.specs.declared.row_form.RowForm.TheVariants.{Index};
 ghost use Rattle.sst_block.specs.BlockReading.{row_at};
 ghost use Rattle.sst_block.specs.IndexRows.{IndexPair, SayPairs};
 ghost use Rattle.sst_block.specs.Seek.{CanSeek, IsTarget, MayBegin, is_before, rows_before};
+ghost use Rattle.sst_block.specs.Places.{PausedIn};
 ghost use Rattle.sst_block.specs.Iter.{Walks, WalksIn, HasTaken, StaysIn, Reaches, BeginsBefore, place_of, place_before, start_of, restart_at, bytes_behind};
 
 use crate::check::{NUMBER_LENGTH, split_whole};
+use crate::place::{Place, row_parts};
 use crate::row::{NO_HANDLE, handle_after, key_cmp, row_lengths, split_row};
 use crate::row_form::RowForm;
 use sst_key::KeyRoom;
@@ -65,6 +67,46 @@ impl<'b> BlockIter<'b> {
             key: room,
             handle: NO_HANDLE,
             stands: false,
+        }
+    }
+
+    /// Ends the walk, and keeps where it stands.
+    pub fn pause(self) -> Place
+        ensures { (form : forms.RowForm) (bytes : List ℕ) (rows : List Row) (b : Block form bytes rows) (place : Option ℕ)
+            → WalksIn self.entry form bytes rows b place → PausedIn result form bytes rows b place }
+    {
+        Place {
+            left: self.here.len(),
+            behind: self.after.len(),
+            value: self.value.len(),
+            key: self.key,
+            handle: self.handle,
+            stands: self.stands,
+        }
+    }
+
+    /// Goes on with a walk that was paused over a block of the same bytes and form. It stands where it stood.
+    pub fn resume(block: &'b [u8], form: RowForm, place: Place) -> BlockIter<'b>
+        requires { (rows : List Row) × (b : Block form block.now rows) × (at : Option ℕ) × PausedIn place form block.now rows b at }
+        ensures within { (rows : List Row) (b : Block form block.now rows) (at : Option ℕ) → PausedIn place form block.now rows b at
+            → WalksIn result form block.now rows b at }
+    {
+        if !place.stands {
+            return BlockIter::start(block, form, place.key);
+        }
+        let parts = split_whole(block);
+        let row = row_parts(parts.rows, place.left, place.behind, place.value);
+        BlockIter {
+            form,
+            rows: parts.rows,
+            places: parts.places,
+            count: parts.count,
+            here: row.here,
+            after: row.after,
+            value: row.value,
+            key: place.key,
+            handle: place.handle,
+            stands: true,
         }
     }
 

@@ -55,7 +55,7 @@
 //! - [`BlockIter`] goes over the rows of a block that was checked, forward and back, to the row at any restart, and to the first
 //!   row that isn't before a target ([`a_seek_passes_the_rows_before`]): there it halves the restarts and decodes the rows of one.
 //!   It says where its row begins. A key stays until the next move, and a value as long as the block. It takes no memory, and no
-//!   move fails.
+//!   move fails. A walk that is paused keeps a [`Place`] and no bytes of the block, and goes on over the same bytes later.
 //!
 //! A block with a hash part is neither made nor read yet.
 #![tactic(auto)]
@@ -65,6 +65,7 @@ mod check;
 mod fault;
 mod iter;
 mod laws;
+mod place;
 mod row;
 mod row_form;
 
@@ -77,4 +78,5 @@ pub use laws::{
     each_group_begins_whole, first_fault_is_first, index_rows_are_one,
     reading_finds_exactly_the_rows,
 };
+pub use place::Place;
 pub use row_form::RowForm;

@@ -14,7 +14,7 @@ use Rattle.sst_bbt_read.specs.declared.bbt_fault.BbtFault.{BbtFault}
 use Rattle.sst_bbt_read.proofs.OpeningDecided.{opens-apart_fails, fails-one, opens-or_fails}
 use Rattle.sst_cli.specs.Behaviour.{Outcome, FileIs}
 use Rattle.sst_cli.specs.OpenFile.{OpenFile, Absent, Damaged, Opened, IsOpenFile, file_outcome}
-use Rattle.sst_cli.proofs.OneReading.{same_some, same_ok, same_err, not_both}
+use Rattle.sst_cli.proofs.OneReading.{same_some, same_err, not_both}
 
 -- a file that isn't missed, and is so where it is told
 file_there : (files : Files) (name : List ℕ) (P : List ℕ → Type 0) (found : Option (List ℕ)) → get files name ≡ found

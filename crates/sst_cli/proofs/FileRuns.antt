@@ -1,5 +1,5 @@
 -- What a run of a command comes to that opens its file and prints a text, by how it ends.
-use Rattle.std.proofs.Common.{◌≡◌, ◌⊎◌, ℕ, List, [], Some, Err, IsTrue, take, refl, sym, ap, subst, ◌∙◌, inl, inr}
+use Rattle.std.proofs.Common.{◌≡◌, ◌⊎◌, ℕ, List, [], Some, IsTrue, take, refl, sym, ap, subst, ◌∙◌, inl, inr}
 use Rattle.std.specs.Io.KnownBytes.{append_known}
 use Rattle.sst_device.specs.Folder.{file_of, misses}
 use Rattle.sst_bbt_spec.specs.BlockBased.{Opens}

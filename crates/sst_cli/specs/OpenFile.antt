@@ -1,5 +1,5 @@
 -- A command that opens a file and prints something of it: what the file may be found as, and what is answered then.
-use Rattle.std.specs.Prelude.{◌≡◌, ℕ, List, [], ◌++◌, Option, Err, IsTrue, All}
+use Rattle.std.specs.Prelude.{◌≡◌, ℕ, List, [], ◌++◌, Option, IsTrue, All}
 use Rattle.std.specs.Io.KnownBytes.{append_known}
 use Rattle.hex.specs.Hex.{IsBytes}
 use Rattle.sst_meta.specs.Footer.{later_length}

@@ -7,8 +7,10 @@ use Rattle.std.specs.Cmp.Lexicographic.{slice_cmp}
 use Rattle.sst_key.specs.InternalKey.{user_of, tag_of}
 use Rattle.sst_block.specs.IndexRows.{IndexPair, IndexRows}
 use Rattle.sst_block.specs.Iter.{WalksIn}
+use Rattle.sst_block.specs.Places.{PausedIn}
 use Rattle.sst_index.specs.declared.flags.IndexFlags.{IndexFlags}
 use Rattle.sst_index.specs.declared.walk.IndexIter.{IndexIter}
+use Rattle.sst_index.specs.declared.walk.IndexPlace.{IndexPlace}
 use Rattle.sst_index.specs.IndexBlock.{form_of}
 
 -- the walk goes over the pairs that the block says, and stands at the place: at the i-th, from 0, or nowhere
@@ -18,6 +20,13 @@ pub record WalksPairs (it : IndexIter) (flags : IndexFlags) (bytes : List ℕ) (
   pub says : IndexRows flags.user_key flags.delta bytes pairs
   pub user_key_is : it.user_key ≡ flags.user_key
   pub walks : WalksIn it.walk (form_of flags) bytes says.rows says.block place
+
+-- the walk over the pairs that the block says was paused at the place
+-- Own.
+-- Pinned by: pause, resume, walks_of_an_index
+pub record PausedPairs (p : IndexPlace) (flags : IndexFlags) (bytes : List ℕ) (pairs : List IndexPair) (place : Option ℕ) : Type 0 where
+  pub says : IndexRows flags.user_key flags.delta bytes pairs
+  pub paused : PausedIn p.place (form_of flags) bytes says.rows says.block place
 
 -- the i-th pair, or nowhere where there is none
 -- RocksDB: block.h, Valid

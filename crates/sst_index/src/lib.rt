@@ -116,4 +116,4 @@ pub use laws::{
 };
 pub use separators::put_separator;
 pub use top::TopBuilder;
-pub use walk::IndexIter;
+pub use walk::{IndexIter, IndexPlace};

@@ -6,11 +6,11 @@ ghost use Rattle.sst_block.specs.IndexRows.{IndexPair, IndexRows};
 ghost use Rattle.sst_block.specs.Iter.{place_before, start_of};
 ghost use Rattle.sst_index.specs.declared.flags.IndexFlags as declared;
 ghost use Rattle.sst_index.specs.IndexBlock.{form_of};
-ghost use Rattle.sst_index.specs.Walk.{WalksPairs, Walking, Lands, pair_place, pairs_before};
+ghost use Rattle.sst_index.specs.Walk.{PausedPairs, WalksPairs, Walking, Lands, pair_place, pairs_before};
 
 use crate::flags::IndexFlags;
 use byteorder::{ByteOrder, LittleEndian};
-use sst_block::{BlockIter, RowForm};
+use sst_block::{BlockIter, Place, RowForm};
 use sst_key::{KeyRoom, LONGEST_KEY, TAG_LENGTH};
 use sst_num::Handle;
 
@@ -30,6 +30,23 @@ pub struct IndexIter<'b> {
     user_key: bool,
 }
 
+/// Where a walk over the pairs of an index block was paused.
+///
+/// It keeps none of the block's bytes but a separator, so the block may go, and the walk goes on over the same bytes once they
+/// are there again ([`IndexIter::resume`]). Own.
+#[derive(Drop)]
+pub struct IndexPlace {
+    /// Where the walk over the rows was paused.
+    place: Place,
+}
+
+impl IndexPlace {
+    /// The room for separators, which is used again.
+    pub fn into_room(self) -> KeyRoom {
+        self.place.into_room()
+    }
+}
+
 impl<'b> IndexIter<'b> {
     /// A walk over the pairs of an index block, which stands nowhere.
     ///
@@ -45,6 +62,32 @@ impl<'b> IndexIter<'b> {
         };
         IndexIter {
             walk: BlockIter::start(block, form, room),
+            user_key: flags.user_key,
+        }
+    }
+
+    /// Ends the walk, and keeps where it stands.
+    pub fn pause(self) -> IndexPlace
+        ensures { (flags : declared.IndexFlags) (bytes : List ℕ) (pairs : List IndexPair) (place : Option ℕ)
+            → WalksPairs self.entry flags bytes pairs place → PausedPairs result flags bytes pairs place }
+    {
+        IndexPlace {
+            place: self.walk.pause(),
+        }
+    }
+
+    /// Goes on with a walk that was paused over an index block of the same bytes and flags. It stands where it stood.
+    pub fn resume(block: &'b [u8], flags: IndexFlags, place: IndexPlace) -> IndexIter<'b>
+        requires { (pairs : List IndexPair) × (at : Option ℕ) × PausedPairs place flags block.now pairs at }
+        ensures { (pairs : List IndexPair) (at : Option ℕ) → PausedPairs place flags block.now pairs at
+            → WalksPairs result flags block.now pairs at }
+    {
+        let form = RowForm::Index {
+            user_key: flags.user_key,
+            delta: flags.delta,
+        };
+        IndexIter {
+            walk: BlockIter::resume(block, form, place.place),
             user_key: flags.user_key,
         }
     }

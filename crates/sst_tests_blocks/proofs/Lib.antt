@@ -1,2 +1,3 @@
 pub mod BackWalks
 pub mod LedBlocks
+pub mod IndexWalks

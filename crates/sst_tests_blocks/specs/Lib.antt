@@ -1,1 +1,2 @@
 pub mod LedBlocks
+pub mod IndexWalks

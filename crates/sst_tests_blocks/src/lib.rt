@@ -11,7 +11,8 @@
 //! - [`forms`]: the form of an index, as the properties tell it.
 //! - [`lengths`]: the longest files that are loaded.
 //! - [`seeking`]: walks that go to a target and to a restart.
-//! - [`index`]: the keys between blocks.
+//! - [`index`]: the keys between blocks, and the bytes of some indexes.
+//! - [`index_walks`]: walks over the pairs of an index block.
 //! - [`laws`]: the laws of these crates, and of what a file stands for.
 #![tactic(auto)]
 
@@ -23,6 +24,8 @@ mod footers;
 mod forms;
 #[cfg(test)]
 mod index;
+#[cfg(test)]
+mod index_walks;
 #[cfg(test)]
 mod laws;
 #[cfg(test)]
