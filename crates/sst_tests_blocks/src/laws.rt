@@ -8,8 +8,8 @@ use sst_bbt_spec::{
     what_a_file_stands_for_is_ordered,
 };
 use sst_block::{
-    a_block_has_one_list_of_rows, chosen_block_stands_for_its_rows, each_group_begins_whole,
-    first_fault_is_first, reading_finds_exactly_the_rows,
+    a_block_has_one_list_of_rows, a_seek_passes_the_rows_before, chosen_block_stands_for_its_rows,
+    each_group_begins_whole, first_fault_is_first, reading_finds_exactly_the_rows,
 };
 use sst_index::{
     a_seek_passes_the_pairs_before, a_separator_ends, a_separator_separates,
@@ -29,6 +29,7 @@ fn of_blocks(_rt: HostRuntime) {
     reading_finds_exactly_the_rows();
     a_block_has_one_list_of_rows();
     first_fault_is_first();
+    a_seek_passes_the_rows_before();
 }
 
 #[test]

@@ -1,7 +1,6 @@
 //! The laws take no value and answer none: that they can be called is all that a test can show.
 use sst_bbt_read::{
-    a_fault_is_shown, a_file_opens_to_its_blocks, a_file_that_opens_shows_no_fault,
-    the_fault_of_opening_is_the_first,
+    a_file_opens_or_fails, a_file_that_opens_shows_no_fault, the_fault_of_opening_is_the_first,
 };
 use sst_bbt_write::{a_list_is_cut_where_blocks_are_full, written_file_stands_for_its_list};
 use sst_cli::{
@@ -26,9 +25,8 @@ fn laws(_rt: HostRuntime) {
     a_call_line_is_that_of_its_call();
     a_call_list_reads_back();
     what_a_text_says_fits();
-    a_file_opens_to_its_blocks();
+    a_file_opens_or_fails();
     a_written_file_reads_back();
-    a_fault_is_shown();
     a_file_that_opens_shows_no_fault();
     the_fault_of_opening_is_the_first();
     a_command_is_by_its_words();
