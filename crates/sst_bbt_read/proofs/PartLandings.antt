@@ -1,16 +1,16 @@
 -- How many entries are passed on the way to a target, as the code of a reader finds it.
-use Rattle.std.proofs.Common.{◌≡◌, ℕ, ◌+◌, ◌-◌, ◌<◌, ◌≤◌, Bool, List, [], length, take, drop, count_by, slice_get, slice_index_or, Option, None, Some, sym, ap, ◌∙◌, subst, inl, inr, arith}
+use Rattle.std.proofs.Common.{◌≡◌, ℕ, ◌+◌, ◌-◌, ◌<◌, ◌≤◌, Bool, true, List, [], length, take, drop, count_by, slice_get, slice_index_or, Option, None, Some, sym, ap, ◌∙◌, subst, inl, inr, arith}
 use Rattle.std.proofs.lemmas.Bool.{cases_lt}
 use Rattle.std.proofs.lemmas.Option.{slice_get-get_or}
 use Rattle.sst_key.specs.declared.entries.Entry.{Entry}
 use Rattle.sst_bbt_spec.specs.Way.{IndexedBlock, joined, passed}
 use Rattle.sst_bbt_spec.specs.PartWay.{or_all, passed_in}
-use Rattle.sst_bbt_read.specs.TableBlocks.{OpenTable, IsOpenTable, AreEnds, AreSeparators, blocks_from, blocks_of, parts_of, start_at}
+use Rattle.sst_bbt_read.specs.TableBlocks.{OpenTable, IsOpenTable, IsAlone, IsSeparated, AreEnds, AreSeparators, blocks_from, blocks_of, parts_of, start_at}
 use Rattle.sst_bbt_read.specs.declared.kept_table.RunEnd.{RunEnd}
 use Rattle.sst_bbt_read.proofs.RunEnds.{between, length-between, between-at, start-between, run-within, ends-between, start-within}
 use Rattle.sst_bbt_read.proofs.JoinedParts.{length-blocks, blocks-between, joined-length, joined-between}
 use Rattle.sst_bbt_read.proofs.RunSearch.{Falls}
-use Rattle.sst_bbt_read.proofs.WayOfParts.{test_of, before, part-separators, IsWeight, leads-into, blocks-past, parts-past, leads-to_part}
+use Rattle.sst_bbt_read.proofs.WayOfParts.{test_of, before, part-has, IsWeight, leads-into, blocks-past, parts-past, leads-to_part}
 
 -- the p-th part of a table: its first block, and the ends of its blocks
 pub record InPart (now : OpenTable) (p first : ℕ) (ends : List RunEnd) : Type 0 where
@@ -32,7 +32,13 @@ pub record InBlock (now : OpenTable) (first count i start : ℕ) (items : List E
 pub ends-separate : (now : OpenTable) (p first : ℕ) (ends : List RunEnd) → IsOpenTable now → InPart now p first ends → AreSeparators ends
 ends-separate now p first ends is part =
     subst AreSeparators (sym (part.are ∙ ap (λ (n : ℕ). between now.ends n part.top.end) part.begins))
-    (part-separators 0 now.tops now.ends p part.top is.within part.at)
+    (part-has IsSeparated 0 now.tops now.ends p part.top is.within part.at)
+
+-- in a whole index it has one data block, and that block's separator
+pub ends-alone : (now : OpenTable) (p first : ℕ) (ends : List RunEnd) → IsOpenTable now → (part : InPart now p first ends) → now.whole ≡ true → IsAlone part.top ends
+ends-alone now p first ends is part whole =
+    subst (IsAlone part.top) (sym (part.are ∙ ap (λ (n : ℕ). between now.ends n part.top.end) part.begins))
+    (part-has IsAlone 0 now.tops now.ends p part.top (is.alone whole) part.at)
 
 -- it begins before it ends, and ends within the blocks
 pub part-within : (now : OpenTable) (p first : ℕ) (ends : List RunEnd) → IsOpenTable now → (part : InPart now p first ends)

@@ -1,5 +1,5 @@
 -- The parts of an index, read one behind the other, as the rows of its top block lead to them.
-use Rattle.std.proofs.Common.{◌≡◌, ◌⊎◌, ℕ, zero, suc, ◌+◌, ◌==◌, ◌<◌, ◌≤◌, Bool, true, false, List, [], ◌∷◌, ◌++◌, length, length-append, map, take, drop, All, Option, Some, slice_get, refl, sym, ap, ◌∙◌, subst, inl, inr, arith}
+use Rattle.std.proofs.Common.{◌≡◌, ◌⊎◌, ℕ, zero, suc, ◌+◌, ◌==◌, ◌<◌, ◌≤◌, Bool, true, false, not, List, [], ◌∷◌, ◌++◌, length, length-append, map, take, drop, All, Option, Some, slice_get, refl, sym, ap, ◌∙◌, subst, inl, inr, arith}
 use Rattle.std.proofs.lemmas.Bool.{eqb-true}
 use Rattle.std.proofs.lemmas.List.{map-append, length-map, take_all, nil_from_length}
 use Rattle.std.proofs.lemmas.List.Elements.{All-nil, All-cons, All-append, All-get_or}
@@ -14,10 +14,10 @@ use Rattle.sst_meta.specs.declared.index_form.IndexForm.{IndexForm}
 use Rattle.sst_bbt_spec.specs.IndexLeads.{SaysPairs, HoldsPairs, HoldsPart, LeadToBlocks, LeadsWithin, LeadToParts}
 use Rattle.sst_bbt_spec.specs.Parts.{Part}
 use Rattle.sst_bbt_spec.specs.Way.{IndexedBlock}
-use Rattle.sst_bbt_read.specs.GrownTable.{BlocksAdded, PartAdded, separators_of, lead_separators}
+use Rattle.sst_bbt_read.specs.GrownTable.{BlocksAdded, PartAdded, lead_separators}
 use Rattle.sst_bbt_read.specs.KeptLeads.{AreLeads, lead_of, leads_of, pairs_of}
 use Rattle.sst_bbt_read.specs.OpeningFaults.{BlockFails, SomeBlockFails, BlocksFail, WithinFails, PartsFail}
-use Rattle.sst_bbt_read.specs.TableBlocks.{IsOpenTable, AreEnds, AreEntries, AreWithin, blocks_from, parts_from}
+use Rattle.sst_bbt_read.specs.TableBlocks.{IsOpenTable, IsAlone, IsSeparated, AreEnds, AreEntries, EachPart, separators_of, blocks_from, parts_from}
 use Rattle.sst_bbt_read.specs.declared.bbt_fault.BbtFault.{BbtFault}
 use Rattle.sst_bbt_read.specs.declared.bbt_fault.BbtFault.TheVariants as bbt
 use Rattle.sst_bbt_read.specs.declared.kept_table.RunEnd.{RunEnd}
@@ -25,7 +25,7 @@ use Rattle.sst_bbt_read.specs.declared.kept_table.data_blocks.DataBlocks.{DataBl
 use Rattle.sst_bbt_read.specs.declared.kept_table.index_leads.IndexLead.{IndexLead}
 use Rattle.sst_bbt_read.proofs.ListFront.{first_more, split_at_one}
 use Rattle.sst_bbt_read.proofs.LeadsFollowed.{kept_lead, kept_fail, parts_lead-push, parts_fail-behind}
-use Rattle.sst_bbt_read.proofs.TableGrown.{ends-append, ends-one, blocks-append, blocks-count, parts-push, within-push, separators-append, separators-are}
+use Rattle.sst_bbt_read.proofs.TableGrown.{ends-append, ends-one, blocks-append, blocks-count, parts-push, each-push, separators-append, separators-are}
 
 -- ---- a part
 
@@ -115,7 +115,8 @@ pub record PartsRead (held now : Option Files) (before faults : ℕ) (name : Lis
   pub ends : AreEnds 0 blocks.ends.items (length blocks.entries.items)
   pub are_tops : AreEnds 0 tops (length blocks.ends.items)
   pub separators : separators_of tops ≡ lead_separators (take n leads)
-  pub within : AreWithin 0 tops blocks.ends.items
+  pub within : EachPart IsSeparated 0 tops blocks.ends.items
+  pub alone : form.parted ≡ false → EachPart IsAlone 0 tops blocks.ends.items
   pub are : All (λ (block : IndexedBlock). AreEntries block.entries) (blocks_from 0 blocks.ends.items blocks.entries.items)
   pub read : (file : List ℕ) → file_of held name ≡ Some file → (pairs : List IndexPair) → leads ≡ leads_of form.user_key pairs
       → LeadToParts file end form (take n pairs) (parts_from 0 tops (blocks_from 0 blocks.ends.items blocks.entries.items))
@@ -164,14 +165,22 @@ parts_led file end form pairs n lead parts blocks at front within =
     subst (λ (ps : List IndexPair). LeadToParts file end form ps (parts ++ part ∷ [])) (first_more pairs n p.0 p.1)
     (parts_lead-push file end form (take n pairs) p.0 parts part front (sym (ap (λ (l : IndexLead). l.separator) p.2)) (within p.0 p.2))
 
+-- what holds of each part holds with one more
+each_grown : (P : RunEnd → List RunEnd → Type 0) (tops tops_now : List RunEnd) (last : RunEnd) (blocks new : DataBlocks) {leads : List IndexLead} (a : BlocksAdded leads blocks new)
+    → AreEnds 0 tops (length blocks.ends.items) → tops_now ≡ tops ++ last ∷ [] → last.end ≡ length blocks.ends.items + length a.ends
+    → EachPart P 0 tops blocks.ends.items → P last a.ends → EachPart P 0 tops_now new.ends.items
+each_grown P tops tops_now last blocks new a are is more each added =
+    subst (λ (ts : List RunEnd). EachPart P 0 ts new.ends.items) (sym is)
+    (subst (λ (es : List RunEnd). EachPart P 0 (tops ++ last ∷ []) es) (sym a.ends_are) (each-push P 0 tops blocks.ends.items a.ends last are more each added))
+
 pub parts_read-more : (held mid now : Option Files) (before faults later : ℕ) (name : List ℕ) (end : ℕ) (form : IndexForm) (leads : List IndexLead) (n : ℕ) (lead : IndexLead)
     (tops tops_now : List RunEnd) (blocks new : DataBlocks) → slice_get leads n ≡ Some lead
     → PartsRead held mid before faults name end form leads n tops blocks → (part : PartAdded blocks new)
     → tops_now ≡ tops ++ record { separator = lead.separator; end = length new.ends.items } ∷ []
     → ((file : List ℕ) → file_of mid name ≡ Some file → (pair : IndexPair) → lead ≡ lead_of form.user_key pair → LeadsWithin form.parted file end form pair part.added.blocks)
-    → now ≡ mid → later ≡ faults
+    → (form.parted ≡ false → part.leads ≡ lead ∷ []) → now ≡ mid → later ≡ faults
     → PartsRead held now before later name end form leads (n + 1) tops_now new
-parts_read-more held mid now before faults later name end form leads n lead tops tops_now blocks new at so part is within same counts =
+parts_read-more held mid now before faults later name end form leads n lead tops tops_now blocks new at so part is within one same counts =
     let a = part.added in
     let last : RunEnd = record { separator = lead.separator; end = length new.ends.items } in
     let all = grown_blocks part.leads blocks new a so.ends in
@@ -187,9 +196,9 @@ parts_read-more held mid now before faults later name end form leads n lead tops
           (ends-one (length blocks.ends.items) last (omega (arith, more, some, part.some))));
       separators = ap separators_of is ∙ separators-append tops (last ∷ []) ∙ ap (λ (ks : List (List ℕ)). ks ++ lead.separator ∷ []) so.separators
           ∙ sym (map-append (λ (l : IndexLead). l.separator) (take n leads) (lead ∷ [])) ∙ ap lead_separators (first_more leads n lead at);
-      within = subst (λ (ts : List RunEnd). AreWithin 0 ts new.ends.items) (sym is)
-          (subst (λ (es : List RunEnd). AreWithin 0 (tops ++ last ∷ []) es) (sym a.ends_are)
-          (within-push 0 tops blocks.ends.items a.ends last so.are_tops more so.within (separators-are a.ends part.leads a.separators part.are)));
+      within = each_grown IsSeparated tops tops_now last blocks new a so.are_tops is more so.within (separators-are a.ends part.leads a.separators part.are);
+      alone = λ whole.
+          each_grown IsAlone tops tops_now last blocks new a so.are_tops is more (so.alone whole) (a.separators ∙ ap lead_separators (one whole));
       are = subst (All (λ (block : IndexedBlock). AreEntries block.entries)) (sym all)
           (All-append (λ (block : IndexedBlock). AreEntries block.entries) (blocks_from 0 blocks.ends.items blocks.entries.items) a.blocks so.are a.are);
       read = λ file told pairs kept.
@@ -209,14 +218,19 @@ row_fails file end form leads pairs n lead parts fault pair at front fails =
 
 -- ---- all parts
 
+not_parted : (parted : Bool) → not parted ≡ true → parted ≡ false
+not_parted true whole = absurd (cc)
+not_parted false whole = refl
+
 pub parts_table : (held now : Option Files) (before faults : ℕ) (name : List ℕ) (end : ℕ) (form : IndexForm) (leads : List IndexLead) (n : ℕ) (tops : List RunEnd) (blocks : DataBlocks)
     → PartsRead held now before faults name end form leads n tops blocks → AreLeads leads → length leads ≤ n
-    → IsOpenTable (record { tops = tops; ends = blocks.ends.items; entries = blocks.entries.items })
+    → IsOpenTable (record { whole = not form.parted; tops = tops; ends = blocks.ends.items; entries = blocks.entries.items })
 parts_table held now before faults name end form leads n tops blocks so are all = record {
   ends = so.ends;
   tops = so.are_tops;
   separators = separators-are tops leads (so.separators ∙ ap lead_separators (take_all n leads all)) are;
   within = so.within;
+  alone = λ whole. so.alone (not_parted form.parted whole);
   blocks = so.are;
 }
 
@@ -247,6 +261,7 @@ parts_none held before name end form leads tops blocks no_tops no_ends no_entrie
   are_tops = rw (no_tops, no_ends) refl;
   separators = ap separators_of no_tops;
   within = rw no_tops tt;
+  alone = λ whole. rw no_tops tt;
   are = rw no_ends (All-nil (λ (block : IndexedBlock). AreEntries block.entries));
   read = λ file told pairs kept. ap (λ (ts : List RunEnd). parts_from 0 ts (blocks_from 0 blocks.ends.items blocks.entries.items)) no_tops;
 }

@@ -1,11 +1,12 @@
 -- Halving ordered separators finds how many of them are before a target.
-use Rattle.std.proofs.Common.{◌≡◌, ℕ, zero, suc, ◌+◌, ◌<◌, ◌≤◌, Bool, true, false, cond, nat_lt, if◌then◌else◌, List, [], ◌∷◌, length, count_by, All, slice_index_or, refl, sym, ap, ◌∙◌, inl, inr, zero-add, arith}
+use Rattle.std.proofs.Common.{◌≡◌, ℕ, zero, suc, ◌+◌, ◌<◌, ◌≤◌, Bool, true, false, cond, nat_lt, if◌then◌else◌, List, [], ◌∷◌, length, count_by, All, slice_get, slice_index_or, Some, subst, refl, sym, ap, ◌∙◌, inl, inr, zero-add, arith}
 use Rattle.std.specs.List.Sorted.{IsPartitionedBy, IsPartitionPoint}
 use Rattle.std.specs.Ordering.{is_lt}
 use Rattle.std.specs.declared.cmp.Ordering.TheVariants.{Less}
 use Rattle.std.proofs.lemmas.Bool.{le-ltb}
 use Rattle.std.proofs.lemmas.List.Elements.{All-head, All-tail}
 use Rattle.std.proofs.lemmas.List.Sums.{sum_by-cons}
+use Rattle.std.proofs.lemmas.Option.{same_Some}
 use Rattle.sst_key.specs.InternalKey.{user_of, tag_of, internal_cmp}
 use Rattle.sst_block.specs.declared.row_form.RowForm.TheVariants.{Index}
 use Rattle.sst_block.specs.Block.{AreOrdered}
@@ -52,6 +53,24 @@ head-passes : {X : Type 0} (p : X → Bool) (a : X) (rest : List X) (j : ℕ) (d
 head-passes p a [] j d falls low passes = absurd (omega arith)
 head-passes p a (b ∷ rest) zero d falls low passes = falls.0 passes
 head-passes p a (b ∷ rest) (suc j) d falls low passes = falls.0 (head-passes p b rest j d falls.1 (omega arith) passes)
+
+here-by : {X : Type 0} (p : X → Bool) (a : X) (rest : List X) (i : ℕ) (x : X) (v : Bool) → p a ≡ v → (p a ≡ false → count_by p rest ≡ 0)
+    → ((k : ℕ) → k ≡ count_by p rest → slice_get rest k ≡ Some x → p x ≡ false)
+    → i ≡ count_by p (a ∷ rest) → slice_get (a ∷ rest) i ≡ Some x → p x ≡ false
+here-by p a rest zero x true passes last later count at = let more = count-yes p a rest passes in absurd (omega (arith, count, more))
+here-by p a rest (suc k) x true passes last later count at = let more = count-yes p a rest passes in later k (omega (arith, count, more)) at
+here-by {X} p a rest zero x false fails last later count at = subst (λ (y : X). p y ≡ false) (same_Some a x at) fails
+here-by p a rest (suc k) x false fails last later count at =
+    let counted = count-no p a rest fails in
+    let none = last fails in
+    absurd (omega (arith, count, counted, none))
+
+-- the one behind those that pass fails
+pub here-fails : {X : Type 0} (p : X → Bool) (xs : List X) (i : ℕ) (x : X) → Falls p xs → i ≡ count_by p xs → slice_get xs i ≡ Some x → p x ≡ false
+here-fails p [] i x falls count at = cc
+here-fails p (a ∷ rest) i x falls count at =
+    here-by p a rest i x (p a) refl (none-behind p a rest falls)
+    (λ k counted there. here-fails p rest k x (tail-falls p a rest falls) counted there) count at
 
 -- so a list is parted as halving asks
 parted : {X : Type 0} (p : X → Bool) (xs : List X) → Falls p xs → IsPartitionedBy p xs

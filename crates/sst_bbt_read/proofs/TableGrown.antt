@@ -8,9 +8,9 @@ use Rattle.sst_block.specs.declared.row_form.RowForm.TheVariants.{Index}
 use Rattle.sst_block.specs.Block.{AreOrdered}
 use Rattle.sst_bbt_spec.specs.Parts.{Part}
 use Rattle.sst_bbt_spec.specs.Way.{IndexedBlock}
-use Rattle.sst_bbt_read.specs.GrownTable.{separators_of, lead_separators}
+use Rattle.sst_bbt_read.specs.GrownTable.{lead_separators}
 use Rattle.sst_bbt_read.specs.KeptLeads.{AreLeads, lead_rows}
-use Rattle.sst_bbt_read.specs.TableBlocks.{AreEnds, AreSeparators, AreWithin, separator_rows, blocks_from, parts_from}
+use Rattle.sst_bbt_read.specs.TableBlocks.{AreEnds, AreSeparators, EachPart, separators_of, separator_rows, blocks_from, parts_from}
 use Rattle.sst_bbt_read.specs.declared.kept_table.RunEnd.{RunEnd}
 use Rattle.sst_bbt_read.specs.declared.kept_table.index_leads.IndexLead.{IndexLead}
 
@@ -79,14 +79,14 @@ parts-push start (t ∷ rest) blocks added last are ends =
     ap (λ (p : Part). p ∷ parts_from t.end (rest ++ last ∷ []) (blocks ++ added)) first
     ∙ ap (λ (ps : List Part). record { separator = t.separator; blocks = take (t.end - start) (drop start blocks) } ∷ ps) (parts-push t.end rest blocks added last are.2 ends)
 
--- the separators of the data blocks of each part
-pub within-push : (start : ℕ) (tops ends added : List RunEnd) (last : RunEnd) → AreEnds start tops (length ends) → last.end ≡ length ends + length added
-    → AreWithin start tops ends → AreSeparators added → AreWithin start (tops ++ last ∷ []) (ends ++ added)
-within-push start [] ends added last are place within more = (subst AreSeparators (sym (all_added start last.end ends added are place)) more, tt)
-within-push start (t ∷ rest) ends added last are place within more =
+-- what holds of each part and its data blocks
+pub each-push : (P : RunEnd → List RunEnd → Type 0) (start : ℕ) (tops ends added : List RunEnd) (last : RunEnd) → AreEnds start tops (length ends) → last.end ≡ length ends + length added
+    → EachPart P start tops ends → P last added → EachPart P start (tops ++ last ∷ []) (ends ++ added)
+each-push P start [] ends added last are place each more = (subst (P last) (sym (all_added start last.end ends added are place)) more, tt)
+each-push P start (t ∷ rest) ends added last are place each more =
     let order : start ≤ t.end = omega (arith, are.0) in (
-      subst AreSeparators (sym (front_same start t.end ends added order are.1)) within.0,
-      within-push t.end rest ends added last are.2 place within.1 more,
+      subst (P t) (sym (front_same start t.end ends added order are.1)) each.0,
+      each-push P t.end rest ends added last are.2 place each.1 more,
     )
 
 -- ---- separators

@@ -7,7 +7,7 @@ use Rattle.std.proofs.lemmas.Option.{same_Some}
 use Rattle.sst_key.specs.declared.entries.Entry.{Entry}
 use Rattle.sst_bbt_spec.specs.Way.{IndexedBlock, joined, passed}
 use Rattle.sst_bbt_spec.specs.PartWay.{or_all, passed_in}
-use Rattle.sst_bbt_read.specs.TableBlocks.{AreEnds, AreSeparators, AreWithin, blocks_from, parts_from, start_at}
+use Rattle.sst_bbt_read.specs.TableBlocks.{AreEnds, EachPart, blocks_from, parts_from, start_at}
 use Rattle.sst_bbt_read.specs.declared.kept_table.RunEnd.{RunEnd}
 use Rattle.sst_bbt_read.proofs.RunEnds.{between, length-between}
 use Rattle.sst_bbt_read.proofs.RunSearch.{Falls, tail-falls, count-yes, count-no, none-behind}
@@ -31,13 +31,12 @@ block-has P start (x ∷ rest) entries zero b all at =
 block-has P start (x ∷ rest) entries (suc i) b all at =
     block-has P x.end rest entries i b (All-tail (λ (block : IndexedBlock). P block.entries) _ (blocks_from x.end rest entries) all) at
 
--- the separators of each part are in order
-pub part-separators : (start : ℕ) (tops ends : List RunEnd) (i : ℕ) (t : RunEnd) → AreWithin start tops ends → slice_get tops i ≡ Some t
-    → AreSeparators (between ends (start_at start tops i) t.end)
-part-separators start [] ends i t within at = cc
-part-separators start (x ∷ rest) ends zero t within at =
-    subst (λ (t : RunEnd). AreSeparators (between ends start t.end)) (same_Some x t at) within.0
-part-separators start (x ∷ rest) ends (suc i) t within at = part-separators x.end rest ends i t within.1 at
+-- what holds of each part holds of this one
+pub part-has : (P : RunEnd → List RunEnd → Type 0) (start : ℕ) (tops ends : List RunEnd) (i : ℕ) (t : RunEnd) → EachPart P start tops ends → slice_get tops i ≡ Some t
+    → P t (between ends (start_at start tops i) t.end)
+part-has P start [] ends i t each at = cc
+part-has P start (x ∷ rest) ends zero t each at = subst (λ (t : RunEnd). P t (between ends start t.end)) (same_Some x t at) each.0
+part-has P start (x ∷ rest) ends (suc i) t each at = part-has P x.end rest ends i t each.1 at
 
 -- ---- one step: the separator is before, or it isn't
 

@@ -5,16 +5,13 @@ use Rattle.std.specs.Prelude.{◌≡◌, ℕ, ◌<◌, List, ◌++◌, length, m
 use Rattle.sst_key.specs.declared.entries.Entry.{Entry}
 use Rattle.sst_bbt_spec.specs.Way.{IndexedBlock}
 use Rattle.sst_bbt_read.specs.KeptLeads.{AreLeads}
-use Rattle.sst_bbt_read.specs.TableBlocks.{AreEntries, AreEnds, blocks_from}
+use Rattle.sst_bbt_read.specs.TableBlocks.{AreEntries, AreEnds, blocks_from, separators_of}
 use Rattle.sst_bbt_read.specs.declared.kept_table.RunEnd.{RunEnd}
 use Rattle.sst_bbt_read.specs.declared.kept_table.data_blocks.DataBlocks.{DataBlocks}
 use Rattle.sst_bbt_read.specs.declared.kept_table.index_leads.IndexLead.{IndexLead}
 
--- the separators, of runs and of rows
+-- the separators of rows
 -- Own.
-abbrev pub separators_of : List RunEnd → List (List ℕ)
-separators_of ends = map (λ (b : RunEnd). b.separator) ends
-
 abbrev pub lead_separators : List IndexLead → List (List ℕ)
 lead_separators leads = map (λ (lead : IndexLead). lead.separator) leads
 

@@ -37,12 +37,14 @@ pub struct RunEnd {
 /// What is kept of a block-based file that is open.
 ///
 /// Contracts see it as the parts of its index, each by its separator and where its data blocks end; its data blocks, each by
-/// its separator and where its entries end; and the entries of all. A whole index has a part for each data block. The
-/// entries of a block increase, their sequence numbers are below 2^56, and their user keys have at most 65,536 bytes. For
+/// its separator and where its entries end; the entries of all; and whether the index is whole. A whole index has a part
+/// for each data block, of the same separator. The entries of a block increase, their sequence numbers are below 2^56, and their user keys have at most 65,536 bytes. For
 /// now all entries are kept in memory.
 /// RocksDB: `BlockBasedTable` in table/block_based/block_based_table_reader.h.
 #[derive(Debug, Drop)]
 pub struct KeptTable {
+    /// The index is whole: each part is one data block.
+    whole: bool,
     /// The parts of the index, in order.
     tops: Vec<RunEnd>,
     /// The data blocks of all parts, in order.
@@ -56,9 +58,9 @@ impl Model for KeptTable {
 
     ghost Value = { OpenTable };
 
-    ghost view = { λ r. record { tops = r.tops.items; ends = r.ends.items; entries = r.entries.items } };
+    ghost view = { λ r. record { whole = r.whole; tops = r.tops.items; ends = r.ends.items; entries = r.entries.items } };
 
-    ghost invariant = { λ r. IsOpenTable (record { tops = r.tops.items; ends = r.ends.items; entries = r.entries.items }) };
+    ghost invariant = { λ r. IsOpenTable (record { whole = r.whole; tops = r.tops.items; ends = r.ends.items; entries = r.entries.items }) };
 }
 
 impl KeptTable {

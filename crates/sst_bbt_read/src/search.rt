@@ -1,6 +1,6 @@
 //! Places in a table that is open, found by halving: how separators stand to a target, be they those of parts or of data
 //! blocks, and where a target stands in an ordered list of entries.
-ghost use Rattle.std.specs.Prelude.{◌≡◌, ℕ, ◌≤◌, false, if◌then◌else◌, nat_lt, length, count_by};
+ghost use Rattle.std.specs.Prelude.{◌≡◌, ℕ, ◌≤◌, true, false, if◌then◌else◌, nat_lt, length, count_by};
 ghost use Rattle.sst_key.specs.InternalKey.{user_of, tag_of};
 ghost use Rattle.sst_bbt_spec.specs.Way.{is_separator_before, seek_tag, seek_for_prev_tag};
 ghost use Rattle.sst_bbt_read.specs.TableBlocks.{AreSeparators};
@@ -80,6 +80,39 @@ pub fn runs_before_seek_for_prev(runs: &[RunEnd], user: &[u8], seq: u64) -> usiz
     ensures { result ≡ count_by (λ (r : ends.RunEnd). is_separator_before user.now (seek_for_prev_tag seq) r.separator) runs.now }
 {
     runs.partition_point(|run| is_before_seek_for_prev(run.separator.as_slice(), user, seq))
+}
+
+/// How many data blocks of a part have a separator before the target of a Seek or a Get that the part's separator isn't before.
+/// In a whole index none has: there a part is one data block.
+pub fn blocks_before_seek(whole: bool, blocks: &[RunEnd], user: &[u8], seq: u64) -> usize
+    requires separators { AreSeparators blocks.now }
+    requires alone { whole ≡ true → count_by (λ (r : ends.RunEnd). is_separator_before user.now (seek_tag seq) r.separator) blocks.now ≡ 0 }
+    ensures { result ≡ count_by (λ (r : ends.RunEnd). is_separator_before user.now (seek_tag seq) r.separator) blocks.now }
+{
+    if whole {
+        0
+    } else {
+        runs_before_seek(blocks, user, seq)
+    }
+}
+
+/// How many data blocks of a part have a separator before the target of a SeekForPrev that the part's separator isn't before.
+/// In a whole index none has.
+pub fn blocks_before_seek_for_prev(
+    whole: bool,
+    blocks: &[RunEnd],
+    user: &[u8],
+    seq: u64,
+) -> usize
+    requires separators { AreSeparators blocks.now }
+    requires alone { whole ≡ true → count_by (λ (r : ends.RunEnd). is_separator_before user.now (seek_for_prev_tag seq) r.separator) blocks.now ≡ 0 }
+    ensures { result ≡ count_by (λ (r : ends.RunEnd). is_separator_before user.now (seek_for_prev_tag seq) r.separator) blocks.now }
+{
+    if whole {
+        0
+    } else {
+        runs_before_seek_for_prev(blocks, user, seq)
+    }
 }
 
 /// How many entries are before the target.

@@ -11,7 +11,10 @@ ghost use Rattle.sst_bbt_spec.specs.Parts.{stored_in};
 ghost use Rattle.sst_bbt_spec.specs.PartWay.{answer_in_parts, get_in_parts, seek_in_parts, seek_for_prev_in_parts, seek_passed_in, prev_passed_in};
 
 use crate::kept_table::{KeptTable, RunEnd};
-use crate::search::{below, runs_before_seek, runs_before_seek_for_prev, up_to};
+use crate::search::{
+    below, blocks_before_seek, blocks_before_seek_for_prev, runs_before_seek,
+    runs_before_seek_for_prev, up_to,
+};
 use sst_key::{Entry, EntryView, Reply};
 
 /// What a move that landed here replies.
@@ -107,13 +110,14 @@ impl KeptTable {
     }
 
     /// How many entries Seek passes: the separators of the top block lead to a part, those of the part to a data block, in
-    /// which the entries before the target are halved. None where it goes past all parts.
+    /// which the entries before the target are halved. None where it goes past all parts. In a whole index the top block leads
+    /// to the data block.
     fn seek_passed(&self, user: &[u8], seq: u64) -> Option<usize>
         ensures passed { result ≡ seek_passed_in None (parts_of self.now) user.now seq }
     {
         let part = runs_before_seek(&self.tops, user, seq);
         let (first, ends) = self.part(part)?;
-        let i = runs_before_seek(ends, user, seq);
+        let i = blocks_before_seek(self.whole, ends, user, seq);
         let (start, block) = self.block_in(first, ends.len(), i);
         Some(start + below(block, user, seq))
     }
@@ -125,7 +129,7 @@ impl KeptTable {
     {
         let part = runs_before_seek_for_prev(&self.tops, user, seq);
         let (first, ends) = self.part(part)?;
-        let i = runs_before_seek_for_prev(ends, user, seq);
+        let i = blocks_before_seek_for_prev(self.whole, ends, user, seq);
         let (start, block) = self.block_in(first, ends.len(), i);
         Some(start + up_to(block, user, seq))
     }

@@ -1,5 +1,5 @@
 //! The tree of a file that is opened: the top block of its index, the parts of the index, and behind each its data blocks.
-ghost use Rattle.std.specs.Prelude.{◌≡◌, ℕ, ◌≤◌, true, List, length, Some, Err, IsTrue, OnOk, IfOk};
+ghost use Rattle.std.specs.Prelude.{◌≡◌, ℕ, ◌≤◌, true, false, List, [], ◌∷◌, length, Some, Err, IsTrue, OnOk, IfOk};
 ghost use Rattle.sst_block.specs.IndexRows.{IndexPair};
 ghost use Rattle.sst_device.specs.Folder.{file_of, misses};
 ghost use Rattle.sst_device.specs.Outside.{OnlyReads};
@@ -76,6 +76,7 @@ fn read_parts<F: Folder>(
     }
     let DataBlocks { ends, entries } = blocks;
     Ok(KeptTable {
+        whole: !form.parted,
         tops,
         ends,
         entries,
@@ -96,7 +97,8 @@ fn read_within<F: Folder>(
     requires { 8 ≤ length lead.now.separator }
     ensures added { OnOk result ((part : PartAdded blocks.old blocks.new)
         × ((file : List ℕ) → file_of (F.held files.old) name.now ≡ Some file → (pair : IndexPair) → lead.now ≡ lead_of form.user_key pair
-        → LeadsWithin form.parted file end form pair part.added.blocks)) }
+        → LeadsWithin form.parted file end form pair part.added.blocks)
+        × (form.parted ≡ false → part.leads ≡ lead.now ∷ [])) }
     ensures told { (file : List ℕ) → file_of (F.held files.old) name.now ≡ Some file → (pair : IndexPair) → lead.now ≡ lead_of form.user_key pair
         → Stopped result (WithinFails form.parted file end form pair) }
     ensures folder { OnlyReads (result ≡ Err Stop.Device) (IsTrue (misses (F.held files.old) name.now end))

@@ -66,7 +66,7 @@ loop-lead-preserved g c =
     c.lead-item.result c.loop-lead.tops.items c.add_end.new.ends.items _ c.read_within.new.blocks at so part.0
     (end_again c.loop-lead.tops.items c.add_end.new.ends.items c.as_slice.result.now c.lead-item.result.separator c.len.result c.read_within.new.blocks.ends.items
     c.in_ok-add_end.ensures c.as_slice.ensures (omega (arith, c.len.ensures, c.read_within.new.blocks.ends.ok.0)))
-    part.1 reads.same_files steady
+    part.1 part.2 reads.same_files steady
 
 pub invariant_of-result : goal.invariant_of-result
 invariant_of-result g c =

@@ -16,6 +16,7 @@ returns-then-form-clause-added g c =
       λ file told pair kept.
           subst (λ (parted : Bool). LeadsWithin parted file c.args.end c.args.form pair all.0.added.blocks) (sym c.if-form.true)
           (all.1 file told pair (sym (ap (λ (l : IndexLead). l.handle) kept))),
+      λ whole. absurd (cc (whole, c.if-form.true)),
     ))
     c.read_part.ensures.added
 
@@ -33,6 +34,7 @@ returns-else-form-clause-added g c =
       λ file told pair kept.
           subst (λ (parted : Bool). LeadsWithin parted file c.args.end c.args.form pair all.0.blocks) (sym c.if-form.false)
           (whole_held file c.args.end c.args.form c.from_ref.result.now c.args.lead.now pair all.0.blocks one kept (all.1 file told)),
+      λ whole. one,
     ))
     c.read_blocks.ensures.added
 
