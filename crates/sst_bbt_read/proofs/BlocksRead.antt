@@ -102,6 +102,19 @@ lead_more file end leads n lead blocks entries at front holds =
     (sym (map-append pair_of (take n leads) (lead ∷ [])))
     (blocks_lead-push file end false (pairs_of (take n leads)) (pair_of lead) blocks (record { separator = lead.separator; entries = entries }) front refl holds)
 
+-- the one block of one row
+pub block_alone : (lead : IndexLead) (old now : DataBlocks) (block : BlockAdded old.entries.items now.entries.items (length now.entries.items))
+    → now.ends.items ≡ old.ends.items ++ record { separator = lead.separator; end = length now.entries.items } ∷ []
+    → (one : BlocksAdded (lead ∷ []) old now)
+    × ((file : List ℕ) (end : ℕ) → HoldsEntries file end lead.handle block.entries → LeadToBlocks file end false (pairs_of (lead ∷ [])) one.blocks)
+block_alone lead old now block is =
+    let none = blocks_none old in
+    let more = blocks_more [] lead old old now none.0 block is in (
+      more.0,
+      λ file end holds.
+          subst (LeadToBlocks file end false (pairs_of (lead ∷ []))) (sym more.1) (lead_more file end (lead ∷ []) 0 lead none.0.blocks block.entries refl none.1 holds),
+    )
+
 -- or to a block that isn't good
 pub lead_fails : (file : List ℕ) (end : ℕ) (leads : List IndexLead) (n : ℕ) (lead : IndexLead) (blocks : List IndexedBlock) (fault : BbtFault)
     → slice_get leads n ≡ Some lead → LeadToBlocks file end false (pairs_of (take n leads)) blocks → SomeBlockFails Entries file end lead.handle fault

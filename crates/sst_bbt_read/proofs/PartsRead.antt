@@ -6,7 +6,7 @@ use Rattle.std.proofs.lemmas.List.Elements.{All-nil, All-cons, All-append, All-g
 use Rattle.std.proofs.lemmas.Option.{slice_get_within, get_or_from_slice_get}
 use Rattle.sst_num.specs.declared.block_handle.Handle.{Handle}
 use Rattle.sst_key.specs.declared.entries.Entry.{Entry}
-use Rattle.sst_block.specs.declared.row_form.RowForm.TheVariants.{Index}
+use Rattle.sst_block.specs.declared.row_form.RowForm.TheVariants.{Entries, Index}
 use Rattle.sst_block.specs.Block.{Row, Spelled, Block, no_handle}
 use Rattle.sst_block.specs.IndexRows.{IndexPair, SayPairs}
 use Rattle.sst_device.specs.Folder.{Files, file_of}
@@ -23,6 +23,7 @@ use Rattle.sst_bbt_read.specs.declared.bbt_fault.BbtFault.TheVariants as bbt
 use Rattle.sst_bbt_read.specs.declared.kept_table.RunEnd.{RunEnd}
 use Rattle.sst_bbt_read.specs.declared.kept_table.data_blocks.DataBlocks.{DataBlocks}
 use Rattle.sst_bbt_read.specs.declared.kept_table.index_leads.IndexLead.{IndexLead}
+use Rattle.sst_bbt_read.proofs.BlocksRead.{lead_fails}
 use Rattle.sst_bbt_read.proofs.ListFront.{first_more, split_at_one}
 use Rattle.sst_bbt_read.proofs.LeadsFollowed.{kept_lead, kept_fail, parts_lead-push, parts_fail-behind}
 use Rattle.sst_bbt_read.proofs.TableGrown.{ends-append, ends-one, blocks-append, blocks-count, parts-push, each-push, separators-append, separators-are}
@@ -89,11 +90,12 @@ whole_held file end form leads lead pair blocks one are lead_to =
     let same : leads ≡ leads_of form.user_key (pair ∷ []) = one ∙ ap (λ (l : IndexLead). l ∷ []) are in
     kept_lead file end form.user_key (pair ∷ []) blocks (subst (λ (ls : List IndexLead). LeadToBlocks file end false (pairs_of ls) blocks) same lead_to)
 
-pub whole_fails : (file : List ℕ) (end : ℕ) (form : IndexForm) (leads : List IndexLead) (lead : IndexLead) (pair : IndexPair) (fault : BbtFault)
-    → leads ≡ lead ∷ [] → lead ≡ lead_of form.user_key pair → BlocksFail file end (pairs_of leads) fault → WithinFails false file end form pair fault
-whole_fails file end form leads lead pair fault one are fails =
-    let same : leads ≡ leads_of form.user_key (pair ∷ []) = one ∙ ap (λ (l : IndexLead). l ∷ []) are in
-    kept_fail file end form.user_key (pair ∷ []) fault (subst (λ (ls : List IndexLead). BlocksFail file end (pairs_of ls) fault) same fails)
+pub whole_fails : (file : List ℕ) (end : ℕ) (form : IndexForm) (lead : IndexLead) (pair : IndexPair) (fault : BbtFault)
+    → lead ≡ lead_of form.user_key pair → SomeBlockFails Entries file end lead.handle fault → WithinFails false file end form pair fault
+whole_fails file end form lead pair fault are fails =
+    let same : lead ∷ [] ≡ leads_of form.user_key (pair ∷ []) = ap (λ (l : IndexLead). l ∷ []) are in
+    kept_fail file end form.user_key (pair ∷ []) fault
+    (subst (λ (ls : List IndexLead). BlocksFail file end (pairs_of ls) fault) same (lead_fails file end (lead ∷ []) 0 lead [] fault refl refl fails))
 
 -- ---- one part more
 

@@ -29,16 +29,10 @@ pub struct DataBlocks {
     pub entries: Vec<Entry>,
 }
 
-/// Appends a run by its separator, which is copied, and where it ends.
-pub fn add_end(
-    alloc: Global,
-    ends: &mut Vec<RunEnd>,
-    separator: &[u8],
-    end: usize,
-) -> Result<(), Memory>
-    ensures { OnOk result (ends.new.items ≡ ends.old.items ++ record { separator = separator.now; end = end } ∷ []) }
+/// Appends a run by its separator and where it ends.
+pub fn add_end(ends: &mut Vec<RunEnd>, separator: Bytes, end: usize) -> Result<(), Memory>
+    ensures { OnOk result (ends.new.items ≡ ends.old.items ++ record { separator = separator; end = end } ∷ []) }
 {
-    let separator = Bytes::from_slice(alloc, separator)?;
     ends.push(RunEnd { separator, end })?;
     Ok(())
 }
@@ -68,24 +62,24 @@ fn read_block<F: Folder>(
 }
 
 /// Reads the data block to which a row of an index leads: appends where it ends, and its entries.
-fn add_block<F: Folder>(
+pub fn add_block<F: Folder>(
     alloc: Global,
     files: &mut F,
     name: &str,
     end: u64,
-    lead: &IndexLead,
+    lead: IndexLead,
     blocks: &mut DataBlocks,
 ) -> Result<(), Stop<BbtFault>>
     ensures added { OnOk result ((block : BlockAdded blocks.old.entries.items blocks.new.entries.items (length blocks.new.entries.items))
-        × (blocks.new.ends.items ≡ blocks.old.ends.items ++ record { separator = lead.now.separator; end = length blocks.new.entries.items } ∷ [])
-        × ((file : List ℕ) → file_of (F.held files.old) name.now ≡ Some file → HoldsEntries file end lead.now.handle block.entries)) }
+        × (blocks.new.ends.items ≡ blocks.old.ends.items ++ record { separator = lead.separator; end = length blocks.new.entries.items } ∷ [])
+        × ((file : List ℕ) → file_of (F.held files.old) name.now ≡ Some file → HoldsEntries file end lead.handle block.entries)) }
     ensures told { (file : List ℕ) → file_of (F.held files.old) name.now ≡ Some file
-        → Stopped result (SomeBlockFails Entries file end lead.now.handle) }
+        → Stopped result (SomeBlockFails Entries file end lead.handle) }
     ensures folder { OnlyReads (result ≡ Err Stop.Device) (IsTrue (misses (F.held files.old) name.now end))
         (F.held files.old) (F.held files.new) (F.faults files.old) (F.faults files.new) }
 {
     let place = read_block(alloc, files, name, end, lead.handle, &mut blocks.entries)?;
-    add_end(alloc, &mut blocks.ends, lead.separator.as_slice(), place)?;
+    add_end(&mut blocks.ends, lead.separator, place)?;
     Ok(())
 }
 
@@ -95,13 +89,13 @@ pub fn read_blocks<F: Folder>(
     files: &mut F,
     name: &str,
     end: u64,
-    leads: &[IndexLead],
+    leads: Vec<IndexLead>,
     blocks: &mut DataBlocks,
 ) -> Result<(), Stop<BbtFault>>
-    ensures added { OnOk result ((added : BlocksAdded leads.now blocks.old blocks.new)
-        × ((file : List ℕ) → file_of (F.held files.old) name.now ≡ Some file → LeadToBlocks file end false (pairs_of leads.now) added.blocks)) }
+    ensures added { OnOk result ((added : BlocksAdded leads.items blocks.old blocks.new)
+        × ((file : List ℕ) → file_of (F.held files.old) name.now ≡ Some file → LeadToBlocks file end false (pairs_of leads.items) added.blocks)) }
     ensures told { (file : List ℕ) → file_of (F.held files.old) name.now ≡ Some file
-        → Stopped result (BlocksFail file end (pairs_of leads.now)) }
+        → Stopped result (BlocksFail file end (pairs_of leads.items)) }
     ensures folder { OnlyReads (result ≡ Err Stop.Device) (IsTrue (misses (F.held files.old) name.now end))
         (F.held files.old) (F.held files.new) (F.faults files.old) (F.faults files.new) }
 {

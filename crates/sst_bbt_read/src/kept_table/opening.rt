@@ -12,13 +12,12 @@ ghost use Rattle.sst_bbt_read.specs.TableBlocks.{IsOpenTable, parts_of};
 
 use crate::bbt_fault::BbtFault;
 use crate::kept_table::KeptTable;
-use crate::kept_table::data_blocks::{DataBlocks, add_end, read_blocks};
+use crate::kept_table::data_blocks::{DataBlocks, add_block, add_end, read_blocks};
 use crate::kept_table::index_leads::{IndexLead, read_leads};
 use sst_device::Folder;
 use sst_meta::IndexForm;
-use sst_num::{Handle, Stop};
+use sst_num::{Bytes, Handle, Stop};
 use std::alloc::Global;
-use std::slice;
 
 /// Opens a file by the handle of the top block of its index. `end` is the file's length without its footer.
 ///
@@ -39,7 +38,7 @@ pub fn open_tree<F: Folder>(
         (F.held files.old) (F.held files.new) (F.faults files.old) (F.faults files.new) }
 {
     let leads = read_leads(alloc, files, name, end, form, handle)?;
-    read_parts(alloc, files, name, end, form, leads.as_slice())
+    read_parts(alloc, files, name, end, form, leads)
 }
 
 /// Reads what the rows of the top block lead to, one after the other.
@@ -49,13 +48,13 @@ fn read_parts<F: Folder>(
     name: &str,
     end: u64,
     form: IndexForm,
-    leads: &[IndexLead],
+    leads: Vec<IndexLead>,
 ) -> Result<KeptTable, Stop<BbtFault>>
-    requires { AreLeads leads.now }
+    requires { AreLeads leads.items }
     ensures table { IfOk result IsOpenTable }
-    ensures opens { (file : List ℕ) → file_of (F.held files.old) name.now ≡ Some file → (pairs : List IndexPair) → leads.now ≡ leads_of form.user_key pairs
+    ensures opens { (file : List ℕ) → file_of (F.held files.old) name.now ≡ Some file → (pairs : List IndexPair) → leads.items ≡ leads_of form.user_key pairs
         → IfOk result (λ table. LeadToParts file end form pairs (parts_of table)) }
-    ensures told { (file : List ℕ) → file_of (F.held files.old) name.now ≡ Some file → (pairs : List IndexPair) → leads.now ≡ leads_of form.user_key pairs
+    ensures told { (file : List ℕ) → file_of (F.held files.old) name.now ≡ Some file → (pairs : List IndexPair) → leads.items ≡ leads_of form.user_key pairs
         → Stopped result (PartsFail file end form pairs) }
     ensures folder { OnlyReads (result ≡ Err Stop.Device) (IsTrue (misses (F.held files.old) name.now end))
         (F.held files.old) (F.held files.new) (F.faults files.old) (F.faults files.new) }
@@ -66,13 +65,8 @@ fn read_parts<F: Folder>(
         entries: Vec::new(alloc),
     };
     for lead in leads {
-        read_within(alloc, files, name, end, form, lead, &mut blocks)?;
-        add_end(
-            alloc,
-            &mut tops,
-            lead.separator.as_slice(),
-            blocks.ends.len(),
-        )?;
+        read_within(alloc, files, name, end, form, &lead, &mut blocks)?;
+        add_end(&mut tops, lead.separator, blocks.ends.len())?;
     }
     let DataBlocks { ends, entries } = blocks;
     Ok(KeptTable {
@@ -107,7 +101,12 @@ fn read_within<F: Folder>(
     if form.parted {
         read_part(alloc, files, name, end, form, lead.handle, blocks)
     } else {
-        read_blocks(alloc, files, name, end, slice::from_ref(lead), blocks)
+        let separator = Bytes::from_slice(alloc, lead.separator.as_slice())?;
+        let copy = IndexLead {
+            separator,
+            handle: lead.handle,
+        };
+        add_block(alloc, files, name, end, copy, blocks)
     }
 }
 
@@ -133,5 +132,5 @@ fn read_part<F: Folder>(
     if leads.is_empty() {
         return Err(Stop::Damage(BbtFault::EmptyBlock(handle)));
     }
-    read_blocks(alloc, files, name, end, leads.as_slice(), blocks)
+    read_blocks(alloc, files, name, end, leads, blocks)
 }

@@ -15,20 +15,20 @@ returns-in_err-leads-clause-told g c = λ file told.
     (λ fault is. inl is) (rw (p.2) (c.in_err-leads.ensures.told file told)))
 
 pub read_parts-requires : goal.read_parts-requires
-read_parts-requires g c = subst AreLeads (sym c.as_slice.ensures.value) c.in_ok-leads.ensures.are
+read_parts-requires g c = c.in_ok-leads.ensures.are
 
 pub returns-clause-opens : goal.returns-clause-opens
 returns-clause-opens g c = λ file told.
     let says = c.in_ok-leads.ensures.says file told in
     let known = ap (λ (h : Option Files). file_of h c.args.name.now) c.in_ok-leads.ensures.folder.same_files ∙ told in
-    IfOk-weaker c.read_parts.result _ _ (λ table led. (says.0, says.1, led)) (c.read_parts.ensures.opens file known says.0 (c.as_slice.ensures.value ∙ says.2))
+    IfOk-weaker c.read_parts.result _ _ (λ table led. (says.0, says.1, led)) (c.read_parts.ensures.opens file known says.0 says.2)
 
 pub returns-clause-told : goal.returns-clause-told
 returns-clause-told g c = λ file told.
     let says = c.in_ok-leads.ensures.says file told in
     let known = ap (λ (h : Option Files). file_of h c.args.name.now) c.in_ok-leads.ensures.folder.same_files ∙ told in
     stopped_weaker c.read_parts.result (PartsFail file c.args.end c.args.form says.0) (TreeFails file c.args.end c.args.form c.args.handle)
-    (λ fault is. inr (says.0, says.1, is)) (c.read_parts.ensures.told file known says.0 (c.as_slice.ensures.value ∙ says.2))
+    (λ fault is. inr (says.0, says.1, is)) (c.read_parts.ensures.told file known says.0 says.2)
 
 pub returns-clause-folder : goal.returns-clause-folder
 returns-clause-folder g c =

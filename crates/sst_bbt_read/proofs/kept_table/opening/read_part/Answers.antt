@@ -27,10 +27,10 @@ returns-clause-added g c =
     let some = some_from c.in_ok-leads.leads.items c.in_ok-leads.leads.len c.if-is_empty.ensures (omega (arith, c.in_ok-leads.leads.ok.0)) in
     ok_weaker c.read_blocks.result _ _
     (λ all. (
-      record { leads = c.as_slice.result.now; are = subst AreLeads (sym c.as_slice.ensures.value) c.in_ok-leads.ensures.are; some = rw (c.as_slice.ensures.value) some; added = all.0 },
+      record { leads = c.in_ok-leads.leads.items; are = c.in_ok-leads.ensures.are; some = some; added = all.0 },
       λ file told pair same.
           let says = c.in_ok-leads.ensures.says file told in
-          part_held file c.args.end c.args.form c.args.handle says.0 c.as_slice.result.now pair all.0.blocks says.1 (c.as_slice.ensures.value ∙ says.2) (rw (c.as_slice.ensures.value) some)
+          part_held file c.args.end c.args.form c.args.handle says.0 c.in_ok-leads.leads.items pair all.0.blocks says.1 says.2 some
           (all.1 file (ap (λ (h : Option Files). file_of h c.args.name.now) reads.same_files ∙ told)) same,
     ))
     c.read_blocks.ensures.added
@@ -40,9 +40,9 @@ returns-clause-told g c = λ file told pair same.
     let reads = c.in_ok-leads.ensures.folder in
     let some = some_from c.in_ok-leads.leads.items c.in_ok-leads.leads.len c.if-is_empty.ensures (omega (arith, c.in_ok-leads.leads.ok.0)) in
     let says = c.in_ok-leads.ensures.says file told in
-    stopped_weaker c.read_blocks.result (BlocksFail file c.args.end (pairs_of c.as_slice.result.now)) (WithinFails true file c.args.end c.args.form pair)
-    (λ fault is. part_blocks_fail file c.args.end c.args.form c.args.handle says.0 c.as_slice.result.now pair fault says.1 (c.as_slice.ensures.value ∙ says.2)
-    (rw (c.as_slice.ensures.value) some) same is)
+    stopped_weaker c.read_blocks.result (BlocksFail file c.args.end (pairs_of c.in_ok-leads.leads.items)) (WithinFails true file c.args.end c.args.form pair)
+    (λ fault is. part_blocks_fail file c.args.end c.args.form c.args.handle says.0 c.in_ok-leads.leads.items pair fault says.1 says.2
+    some same is)
     (c.read_blocks.ensures.told file (ap (λ (h : Option Files). file_of h c.args.name.now) reads.same_files ∙ told))
 
 pub returns-clause-folder : goal.returns-clause-folder

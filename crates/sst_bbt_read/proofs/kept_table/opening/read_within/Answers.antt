@@ -1,10 +1,14 @@
-use Rattle.std.proofs.Common.{Bool, false, length, sym, subst, ap, arith}
+use Rattle.std.proofs.Common.{◌≡◌, ℕ, List, [], ◌∷◌, Bool, false, refl, sym, subst, ap, ◌∙◌, arith}
+
+use Rattle.sst_block.specs.declared.row_form.RowForm.TheVariants.{Entries}
 use Rattle.sst_bbt_spec.specs.IndexLeads.{LeadsWithin}
-use Rattle.sst_bbt_read.specs.KeptLeads.{AreLeads, pairs_of}
-use Rattle.sst_bbt_read.specs.OpeningFaults.{BlocksFail, WithinFails}
+use Rattle.sst_bbt_read.specs.KeptLeads.{AreLeads}
+use Rattle.sst_bbt_read.specs.OpeningFaults.{SomeBlockFails, WithinFails}
 use Rattle.sst_bbt_read.specs.Reader.{Stopped}
 use Rattle.sst_bbt_read.specs.declared.kept_table.index_leads.IndexLead.{IndexLead}
+use Rattle.sst_bbt_read.proofs.BlocksRead.{block_alone}
 use Rattle.sst_bbt_read.proofs.PartsRead.{one_lead, whole_held, whole_fails}
+
 use Rattle.sst_bbt_read.proofs.StopsWeaker.{ok_weaker, stopped_weaker}
 use Rattle.sst_bbt_read.proofs.kept_table.opening.read_within.Goals as goal
 
@@ -20,27 +24,30 @@ returns-then-form-clause-added g c =
     ))
     c.read_part.ensures.added
 
-pub returns-else-form-clause-added : goal.returns-else-form-clause-added
-returns-else-form-clause-added g c =
-    let one = c.from_ref.ensures.value in
-    ok_weaker c.read_blocks.result _ _
-    (λ all. (
-      record {
-        leads = c.from_ref.result.now;
-        are = subst AreLeads (sym one) (one_lead c.args.lead.now c.requires);
-        some = omega (arith, ap length one);
-        added = all.0;
-      },
-      λ file told pair kept.
-          subst (λ (parted : Bool). LeadsWithin parted file c.args.end c.args.form pair all.0.blocks) (sym c.if-form.false)
-          (whole_held file c.args.end c.args.form c.from_ref.result.now c.args.lead.now pair all.0.blocks one kept (all.1 file told)),
-      λ whole. one,
-    ))
-    c.read_blocks.ensures.added
+pub returns-in_ok-separator-clause-added : goal.returns-in_ok-separator-clause-added
+returns-in_ok-separator-clause-added g c =
+    let copy : IndexLead = record { separator = c.in_ok-separator.separator; handle = c.args.lead.now.handle } in
+    let same : copy ≡ c.args.lead.now =
+    ap (λ (s : List ℕ). record { separator = s; handle = c.args.lead.now.handle }) (c.in_ok-separator.ensures ∙ c.as_slice.ensures) in
+    ok_weaker c.add_block.result _ _
+    (λ all.
+        let alone = block_alone copy c.args.blocks.now c.add_block.new.blocks all.0 all.1 in (
+          record {
+            leads = copy ∷ [];
+            are = subst (λ (l : IndexLead). AreLeads (l ∷ [])) (sym same) (one_lead c.args.lead.now c.requires);
+            some = omega arith;
+            added = alone.0;
+          },
+          λ file told pair kept.
+              subst (λ (parted : Bool). LeadsWithin parted file c.args.end c.args.form pair alone.0.blocks) (sym c.if-form.false)
+              (whole_held file c.args.end c.args.form (copy ∷ []) copy pair alone.0.blocks refl (same ∙ kept) (alone.1 file c.args.end (all.2 file told))),
+          λ whole. ap (λ (l : IndexLead). l ∷ []) same,
+        ))
+    c.add_block.ensures.added
 
-pub returns-else-form-clause-told : goal.returns-else-form-clause-told
-returns-else-form-clause-told g c = λ file told pair kept.
-    subst (λ (parted : Bool). Stopped c.read_blocks.result (WithinFails parted file c.args.end c.args.form pair)) (sym c.if-form.false)
-    (stopped_weaker c.read_blocks.result (BlocksFail file c.args.end (pairs_of c.from_ref.result.now)) (WithinFails false file c.args.end c.args.form pair)
-    (λ fault is. whole_fails file c.args.end c.args.form c.from_ref.result.now c.args.lead.now pair fault c.from_ref.ensures.value kept is)
-    (c.read_blocks.ensures.told file told))
+pub returns-in_ok-separator-clause-told : goal.returns-in_ok-separator-clause-told
+returns-in_ok-separator-clause-told g c = λ file told pair kept.
+    subst (λ (parted : Bool). Stopped c.add_block.result (WithinFails parted file c.args.end c.args.form pair)) (sym c.if-form.false)
+    (stopped_weaker c.add_block.result (SomeBlockFails Entries file c.args.end c.args.lead.now.handle) (WithinFails false file c.args.end c.args.form pair)
+    (λ fault is. whole_fails file c.args.end c.args.form c.args.lead.now pair fault kept is)
+    (c.add_block.ensures.told file told))
