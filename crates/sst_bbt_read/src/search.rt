@@ -98,12 +98,7 @@ pub fn blocks_before_seek(whole: bool, blocks: &[RunEnd], user: &[u8], seq: u64)
 
 /// How many data blocks of a part have a separator before the target of a SeekForPrev that the part's separator isn't before.
 /// In a whole index none has.
-pub fn blocks_before_seek_for_prev(
-    whole: bool,
-    blocks: &[RunEnd],
-    user: &[u8],
-    seq: u64,
-) -> usize
+pub fn blocks_before_seek_for_prev(whole: bool, blocks: &[RunEnd], user: &[u8], seq: u64) -> usize
     requires separators { AreSeparators blocks.now }
     requires alone { whole ≡ true → count_by (λ (r : ends.RunEnd). is_separator_before user.now (seek_for_prev_tag seq) r.separator) blocks.now ≡ 0 }
     ensures { result ≡ count_by (λ (r : ends.RunEnd). is_separator_before user.now (seek_for_prev_tag seq) r.separator) blocks.now }

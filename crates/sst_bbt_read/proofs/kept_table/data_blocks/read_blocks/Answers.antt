@@ -1,4 +1,4 @@
-use Rattle.std.proofs.Common.{ℕ, Err, ◌≡◌, ◌++◌, ◌∷◌, [], length, List, Option, Some, refl, inl, inr, sym, ap, ◌∙◌, subst, arith}
+use Rattle.std.proofs.Common.{ℕ, Err, ◌≡◌, ◌++◌, ◌∷◌, [], length, List, Option, refl, inl, inr, sym, ap, ◌∙◌, subst, arith}
 use Rattle.std.specs.Vec.Iter.{into_iter_items}
 use Rattle.std.proofs.lemmas.List.{append_assoc}
 use Rattle.std.proofs.lemmas.Result.{err_from_is_err_and}
@@ -51,12 +51,12 @@ loop-lead-preserved g c =
     (g.F.Folder.faults c.loop-lead.files) (g.F.Folder.faults c.add_block.new.files) c.args.name.now c.args.end c.args.leads.items (length c.loop-lead.yielded) c.in-Some.lead
     c.args.blocks.now c.loop-lead.blocks c.add_block.new.blocks at so b.0 b.1 b.2 reads.same_files steady in (
       append_assoc c.loop-lead.yielded (c.in-Some.lead ∷ []) (into_iter_items c.next.new.self)
-      ∙ ap (λ (ls : List _). c.loop-lead.yielded ++ ls) (sym c.in-Some.ensures.steps.0) ∙ c.loop-lead.invariant.0,
+          ∙ ap (λ (ls : List _). c.loop-lead.yielded ++ ls) (sym c.in-Some.ensures.steps.0) ∙ c.loop-lead.invariant.0,
       omega (arith, c.in-Some.ensures.steps.1, c.loop-lead.invariant.1, ap length c.in-Some.ensures.steps.0),
       subst
-      (λ (n : ℕ). BlocksRead (g.F.Folder.held c.args.files.now) (g.F.Folder.held c.add_block.new.files) (g.F.Folder.faults c.args.files.now) (g.F.Folder.faults c.add_block.new.files)
+          (λ (n : ℕ). BlocksRead (g.F.Folder.held c.args.files.now) (g.F.Folder.held c.add_block.new.files) (g.F.Folder.faults c.args.files.now) (g.F.Folder.faults c.add_block.new.files)
           c.args.name.now c.args.end c.args.leads.items n c.args.blocks.now c.add_block.new.blocks)
-      (front_longer c.loop-lead.yielded c.in-Some.lead) more,
+          (front_longer c.loop-lead.yielded c.in-Some.lead) more,
     )
 
 pub returns-clause-added : goal.returns-clause-added

@@ -1,8 +1,7 @@
-use Rattle.std.proofs.Common.{ℕ, Err, ◌≡◌, Option, inl, inr, sym, ap, ◌∙◌, subst}
+use Rattle.std.proofs.Common.{ℕ, Err, ◌≡◌, Option, inl, inr, ap, ◌∙◌}
 use Rattle.std.proofs.lemmas.Result.{err_from_is_err_and, IfOk-weaker}
 use Rattle.sst_block.specs.declared.row_form.RowForm.TheVariants.{Index}
 use Rattle.sst_device.specs.Folder.{Files, file_of}
-use Rattle.sst_bbt_read.specs.KeptLeads.{AreLeads}
 use Rattle.sst_bbt_read.specs.OpeningFaults.{BlockFails, PartsFail, TreeFails}
 use Rattle.sst_bbt_read.proofs.ReadsLater.{reads_later}
 use Rattle.sst_bbt_read.proofs.StopsWeaker.{stopped_weaker}

@@ -1,8 +1,8 @@
-use Rattle.std.proofs.Common.{ℕ, Err, ◌≡◌, true, Option, inl, inr, ap, ◌∙◌, sym, subst, arith}
+use Rattle.std.proofs.Common.{ℕ, Err, ◌≡◌, true, Option, inl, inr, ap, ◌∙◌, arith}
 use Rattle.std.proofs.lemmas.Result.{err_from_is_err_and}
 use Rattle.sst_block.specs.declared.row_form.RowForm.TheVariants.{Index}
 use Rattle.sst_device.specs.Folder.{Files, file_of}
-use Rattle.sst_bbt_read.specs.KeptLeads.{AreLeads, pairs_of}
+use Rattle.sst_bbt_read.specs.KeptLeads.{pairs_of}
 use Rattle.sst_bbt_read.specs.OpeningFaults.{BlockFails, BlocksFail, WithinFails}
 use Rattle.sst_bbt_read.proofs.PartsRead.{part_fails, part_empty, part_held, part_blocks_fail, none_from, some_from}
 use Rattle.sst_bbt_read.proofs.ReadsLater.{reads_later}

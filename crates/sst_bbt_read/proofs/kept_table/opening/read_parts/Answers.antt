@@ -13,13 +13,12 @@ use Rattle.sst_bbt_read.proofs.StopsWeaker.{stopped_weaker}
 use Rattle.sst_bbt_read.proofs.kept_table.opening.read_parts.Goals as goal
 
 pub loop-lead-init : goal.loop-lead-init
-loop-lead-init g c =
-    (
-      c.into_iter-lead-iterator.ensures.into_iter_gives.0,
-      omega (arith, c.into_iter-lead-iterator.ensures.into_iter_gives.1, c.args.leads.ok.0, ap length c.into_iter-lead-iterator.ensures.into_iter_gives.0),
-      parts_none (g.F.Folder.held c.args.files.now) (g.F.Folder.faults c.args.files.now) c.args.name.now c.args.end c.args.form c.args.leads.items c.new-tops.result.items
+loop-lead-init g c = (
+  c.into_iter-lead-iterator.ensures.into_iter_gives.0,
+  omega (arith, c.into_iter-lead-iterator.ensures.into_iter_gives.1, c.args.leads.ok.0, ap length c.into_iter-lead-iterator.ensures.into_iter_gives.0),
+  parts_none (g.F.Folder.held c.args.files.now) (g.F.Folder.faults c.args.files.now) c.args.name.now c.args.end c.args.form c.args.leads.items c.new-tops.result.items
       (record { ends = c.new.result; entries = c.new-2.result }) c.new-tops.ensures.items c.new.ensures.items c.new-2.ensures.items,
-    )
+)
 
 pub read_within-requires : goal.read_within-requires
 read_within-requires g c =
@@ -77,12 +76,12 @@ loop-lead-preserved g c =
     c.in_ok-add_end.ensures refl (omega (arith, c.len.ensures, c.read_within.new.blocks.ends.ok.0)))
     part.1 part.2 reads.same_files steady in (
       append_assoc c.loop-lead.yielded (c.in-Some.lead ∷ []) (into_iter_items c.next.new.self)
-      ∙ ap (λ (ls : List IndexLead). c.loop-lead.yielded ++ ls) (sym c.in-Some.ensures.steps.0) ∙ c.loop-lead.invariant.0,
+          ∙ ap (λ (ls : List IndexLead). c.loop-lead.yielded ++ ls) (sym c.in-Some.ensures.steps.0) ∙ c.loop-lead.invariant.0,
       omega (arith, c.in-Some.ensures.steps.1, c.loop-lead.invariant.1, ap length c.in-Some.ensures.steps.0),
       subst
-      (λ (n : ℕ). PartsRead (g.F.Folder.held c.args.files.now) (g.F.Folder.held c.read_within.new.files) (g.F.Folder.faults c.args.files.now) (g.F.Folder.faults c.read_within.new.files)
+          (λ (n : ℕ). PartsRead (g.F.Folder.held c.args.files.now) (g.F.Folder.held c.read_within.new.files) (g.F.Folder.faults c.args.files.now) (g.F.Folder.faults c.read_within.new.files)
           c.args.name.now c.args.end c.args.form c.args.leads.items n c.add_end.new.ends.items c.read_within.new.blocks)
-      (front_longer c.loop-lead.yielded c.in-Some.lead) more,
+          (front_longer c.loop-lead.yielded c.in-Some.lead) more,
     )
 
 pub invariant_of-result : goal.invariant_of-result

@@ -1,5 +1,4 @@
 use Rattle.std.proofs.Common.{◌≡◌, ℕ, List, [], ◌∷◌, Bool, false, refl, sym, subst, ap, ◌∙◌, arith}
-
 use Rattle.sst_block.specs.declared.row_form.RowForm.TheVariants.{Entries}
 use Rattle.sst_bbt_spec.specs.IndexLeads.{LeadsWithin}
 use Rattle.sst_bbt_read.specs.KeptLeads.{AreLeads}
@@ -8,7 +7,6 @@ use Rattle.sst_bbt_read.specs.Reader.{Stopped}
 use Rattle.sst_bbt_read.specs.declared.kept_table.index_leads.IndexLead.{IndexLead}
 use Rattle.sst_bbt_read.proofs.BlocksRead.{block_alone}
 use Rattle.sst_bbt_read.proofs.PartsRead.{one_lead, whole_held, whole_fails}
-
 use Rattle.sst_bbt_read.proofs.StopsWeaker.{ok_weaker, stopped_weaker}
 use Rattle.sst_bbt_read.proofs.kept_table.opening.read_within.Goals as goal
 
@@ -31,18 +29,18 @@ returns-in_ok-separator-clause-added g c =
     ap (λ (s : List ℕ). record { separator = s; handle = c.args.lead.now.handle }) (c.in_ok-separator.ensures ∙ c.as_slice.ensures) in
     ok_weaker c.add_block.result _ _
     (λ all.
-        let alone = block_alone copy c.args.blocks.now c.add_block.new.blocks all.0 all.1 in (
-          record {
-            leads = copy ∷ [];
-            are = subst (λ (l : IndexLead). AreLeads (l ∷ [])) (sym same) (one_lead c.args.lead.now c.requires);
-            some = omega arith;
-            added = alone.0;
-          },
-          λ file told pair kept.
-              subst (λ (parted : Bool). LeadsWithin parted file c.args.end c.args.form pair alone.0.blocks) (sym c.if-form.false)
-              (whole_held file c.args.end c.args.form (copy ∷ []) copy pair alone.0.blocks refl (same ∙ kept) (alone.1 file c.args.end (all.2 file told))),
-          λ whole. ap (λ (l : IndexLead). l ∷ []) same,
-        ))
+    let alone = block_alone copy c.args.blocks.now c.add_block.new.blocks all.0 all.1 in (
+      record {
+        leads = copy ∷ [];
+        are = subst (λ (l : IndexLead). AreLeads (l ∷ [])) (sym same) (one_lead c.args.lead.now c.requires);
+        some = omega arith;
+        added = alone.0;
+      },
+      λ file told pair kept.
+          subst (λ (parted : Bool). LeadsWithin parted file c.args.end c.args.form pair alone.0.blocks) (sym c.if-form.false)
+          (whole_held file c.args.end c.args.form (copy ∷ []) copy pair alone.0.blocks refl (same ∙ kept) (alone.1 file c.args.end (all.2 file told))),
+      λ whole. ap (λ (l : IndexLead). l ∷ []) same,
+    ))
     c.add_block.ensures.added
 
 pub returns-in_ok-separator-clause-told : goal.returns-in_ok-separator-clause-told
