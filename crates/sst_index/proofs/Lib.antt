@@ -15,3 +15,4 @@ pub mod Fronts
 pub mod Says
 pub mod Stand
 pub mod PairWalks
+pub mod Picks

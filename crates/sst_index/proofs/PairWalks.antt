@@ -97,7 +97,7 @@ separator-at flags bytes pairs r i key (row, at, is) =
     (pair, there, is ∙ same)
 
 -- the row of a pair
-pair-row : (delta : Bool) (before : Handle) (spelled : List Spelled) (pairs : List IndexPair) (i : ℕ) (pair : IndexPair) → SayPairs delta before spelled pairs
+pub pair-row : (delta : Bool) (before : Handle) (spelled : List Spelled) (pairs : List IndexPair) (i : ℕ) (pair : IndexPair) → SayPairs delta before spelled pairs
     → slice_get pairs i ≡ Some pair → (row : Row) × (slice_get (map row_of spelled) i ≡ Some row) × (row.key ≡ pair.separator)
 pair-row delta before [] [] i pair says at = cc
 pair-row delta before [] (p ∷ pairs) i pair says at = cc

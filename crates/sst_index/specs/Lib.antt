@@ -8,3 +8,4 @@ pub mod Index
 pub mod Parted
 pub mod Partitions
 pub mod Walk
+pub mod Pick

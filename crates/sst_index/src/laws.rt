@@ -1,5 +1,5 @@
 //! Laws: where a separator stands, and what an index block says.
-ghost use Rattle.std.specs.Prelude.{◌≡◌, ◌≢◌, ℕ, ◌+◌, ◌^◌, ◌<◌, ◌≤◌, true, false, List, ◌++◌, length, slice_get, All, Some};
+ghost use Rattle.std.specs.Prelude.{◌≡◌, ◌≢◌, ◌↔◌, ℕ, ◌+◌, ◌^◌, ◌<◌, ◌≤◌, Bool, true, false, List, ◌++◌, length, slice_get, All, Some};
 ghost use Rattle.std.specs.List.{flat_map};
 ghost use Rattle.std.specs.Ordering.{nat_cmp};
 ghost use Rattle.std.specs.Cmp.Lexicographic.{slice_cmp};
@@ -9,12 +9,15 @@ ghost use Rattle.sst_block.specs.Block.{AreOrdered};
 ghost use Rattle.sst_block.specs.IndexRows.{IndexPair, IndexRows};
 ghost use Rattle.sst_device.specs.Framed.{Framed};
 ghost use Rattle.sst_index.specs.declared.flags.IndexFlags.{IndexFlags};
+ghost use Rattle.sst_index.specs.declared.pick.Pick.TheVariants.{Part, Unsure, Beyond};
+ghost use Rattle.sst_num.specs.declared.block_handle.Handle.{Handle};
 ghost use Rattle.sst_index.specs.Behind.{AreBehind};
 ghost use Rattle.sst_index.specs.Ends.{AreEnds, BlockEnd, flags_of, pairs_of};
 ghost use Rattle.sst_index.specs.Index.{AreOptions};
 ghost use Rattle.sst_index.specs.IndexBytes.{IndexOptions, index_bytes, parts_of, top_block, top_handle, top_pairs};
 ghost use Rattle.sst_index.specs.IndexBlock.{form_of, index_block, rows_of_pairs};
 ghost use Rattle.sst_index.specs.Partitions.{LeadToPartitions};
+ghost use Rattle.sst_index.specs.Pick.{AreBeforeUser, IsFirstNotBefore, part_of};
 ghost use Rattle.sst_index.specs.Separators.{separator_between, separator_after};
 ghost use Rattle.sst_index.specs.Top.{IsPair};
 ghost use Rattle.sst_index.specs.Walk.{is_pair_before, pairs_before};
@@ -106,6 +109,23 @@ pub fn a_seek_passes_the_pairs_before()
     ensures not { (flags : IndexFlags) (bytes : List ℕ) (pairs : List IndexPair) (user : List ℕ) (tag i : ℕ) (pair : IndexPair)
         → IndexRows flags.user_key flags.delta bytes pairs → tag < 2 ^ 64 → slice_get pairs i ≡ Some pair
         → is_pair_before flags.user_key user tag pair ≡ false → pairs_before flags.user_key user tag pairs ≤ i }
+{}
+
+/// The part of a user key is that of the first pair whose separator isn't before the key, and no other.
+///
+/// `part`: the answer is a part exactly where the first such pair leads to it, and its separator isn't a stored key of this
+/// user key. `unsure`: the part is open exactly where the first such pair has a stored key of this user key. `beyond`: the key is
+/// beyond all parts exactly where each separator is before it. Of any list of pairs.
+/// RocksDB: `PartitionedFilterBlockReader::GetFilterPartitionHandle` in table/block_based/partitioned_filter_block.cc.
+pub fn a_part_is_the_first_not_before()
+    ensures part { (user_key : Bool) (user : List ℕ) (pairs : List IndexPair) (handle : Handle)
+        → (part_of user_key user pairs ≡ Part handle) ↔ ((pair : IndexPair) × IsFirstNotBefore user_key user pairs pair
+        × (pair.handle ≡ handle) × (user_key ≡ false → user_of pair.separator ≢ user)) }
+    ensures unsure { (user_key : Bool) (user : List ℕ) (pairs : List IndexPair)
+        → (part_of user_key user pairs ≡ Unsure) ↔ ((pair : IndexPair) × IsFirstNotBefore user_key user pairs pair
+        × (user_key ≡ false) × (user_of pair.separator ≡ user)) }
+    ensures beyond { (user_key : Bool) (user : List ℕ) (pairs : List IndexPair)
+        → (part_of user_key user pairs ≡ Beyond) ↔ AreBeforeUser user_key user pairs }
 {}
 
 /// The partitions have all pairs, in their order.

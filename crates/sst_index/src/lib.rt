@@ -94,6 +94,9 @@
 //!   specs/Walk.antt), and a seek goes to the first pair whose separator isn't before the target
 //!   ([`a_seek_passes_the_pairs_before`]). A walk that is paused keeps an [`IndexPlace`], and goes on over the same bytes later.
 //!   It takes no memory.
+//! - [`pick_part`] picks the part of a filter that has a user key, by the top block of the parts: that of the first separator
+//!   that isn't before the key (`part_of`, specs/Pick.antt; [`a_part_is_the_first_not_before`]). A stored separator of this very
+//!   user key leaves the part open. It takes no memory.
 //! - Where memory runs out a call answers so, and so does each later call of that builder that can fail.
 //!
 //! RocksDB: table/block_based/index_builder.h and index_builder.cc, and util/comparator.cc. RocksDB shortens separators in more
@@ -103,6 +106,7 @@
 mod builder;
 mod flags;
 mod laws;
+mod pick;
 mod separators;
 mod top;
 mod walk;
@@ -111,10 +115,11 @@ mod writing;
 pub use builder::IndexBuilder;
 pub use flags::IndexFlags;
 pub use laws::{
-    a_seek_passes_the_pairs_before, a_separator_ends, a_separator_separates,
-    an_index_block_says_its_pairs, an_index_says_its_pairs, an_index_stands_in_a_file,
-    partitions_are_the_pairs,
+    a_part_is_the_first_not_before, a_seek_passes_the_pairs_before, a_separator_ends,
+    a_separator_separates, an_index_block_says_its_pairs, an_index_says_its_pairs,
+    an_index_stands_in_a_file, partitions_are_the_pairs,
 };
+pub use pick::{Pick, pick_part};
 pub use separators::put_separator;
 pub use top::TopBuilder;
 pub use walk::{IndexIter, IndexPlace};

@@ -12,9 +12,9 @@ use sst_block::{
     each_group_begins_whole, first_fault_is_first, reading_finds_exactly_the_rows,
 };
 use sst_index::{
-    a_seek_passes_the_pairs_before, a_separator_ends, a_separator_separates,
-    an_index_block_says_its_pairs, an_index_says_its_pairs, an_index_stands_in_a_file,
-    partitions_are_the_pairs,
+    a_part_is_the_first_not_before, a_seek_passes_the_pairs_before, a_separator_ends,
+    a_separator_separates, an_index_block_says_its_pairs, an_index_says_its_pairs,
+    an_index_stands_in_a_file, partitions_are_the_pairs,
 };
 use sst_meta::{
     a_file_loads_as_it_says, a_footer_is_read, a_footer_reads_back, a_meta_fault_is_shown,
@@ -37,6 +37,7 @@ fn of_an_index(_rt: HostRuntime) {
     a_separator_separates();
     a_separator_ends();
     a_seek_passes_the_pairs_before();
+    a_part_is_the_first_not_before();
     an_index_block_says_its_pairs();
     an_index_says_its_pairs();
     an_index_stands_in_a_file();

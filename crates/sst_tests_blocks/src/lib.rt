@@ -13,11 +13,14 @@
 //! - [`seeking`]: walks that go to a target and to a restart.
 //! - [`index`]: the keys between blocks, and the bytes of some indexes.
 //! - [`index_walks`]: walks over the pairs of an index block.
+//! - [`filter_parts`]: filters in parts, and which part has a user key.
 //! - [`laws`]: the laws of these crates, and of what a file stands for.
 #![tactic(auto)]
 
 #[cfg(test)]
 mod blocks;
+#[cfg(test)]
+mod filter_parts;
 #[cfg(test)]
 mod footers;
 #[cfg(test)]
