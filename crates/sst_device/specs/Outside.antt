@@ -13,7 +13,7 @@ pub record CountsFaults (Failed : Type 0) (before now : ℕ) : Type 0 where
 
 -- A call only reads a folder, and hides no fault. `Missed` says that the folder tells that it lacks what the call needs: a
 -- miss is told as a failure too, and counts nothing.
--- Pinned by: draw.folder, load.folder, open.folder, fault_of_a_draw_told_as_memory
+-- Pinned by: draw.folder, load.folder, open.folder
 pub record OnlyReads (Failed Missed : Type 0) (held left : Option Files) (before now : ℕ) : Type 0 where
   pub same_files : left ≡ held
   pub counts : before ≤ now

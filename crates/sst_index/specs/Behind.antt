@@ -43,7 +43,7 @@ last_of (pair ∷ pairs) = Some (last_handle pair.handle pairs)
 
 -- how a handle is told by the difference from the one before, if there is one
 -- RocksDB: table/format.cc, IndexValue::EncodeTo
--- Pinned by: finish.exact, index_of_differences, difference_of_offsets
+-- Pinned by: finish.exact, index_of_differences
 abbrev pub difference_of : Option Handle → Handle → List ℕ
 difference_of None h = []
 difference_of (Some before) h = signed_varint (pos h.size -ℤ pos before.size)

@@ -1,8 +1,8 @@
-//! Tests of the form of an index, as the properties of a file tell it. The files are those of [`crate::loading`].
+//! Tests of the form of an index, as the properties of a file tell it. The files are those of [`crate::loaded_files`].
 //!
 //! RocksDB: `CreateIndexReader` in table/block_based/block_based_table_reader.cc; the values are those of
 //! include/rocksdb/table.h and table/table_properties.cc.
-use crate::loading::{Pairs, file_of, file_with, load_of};
+use crate::loaded_files::{Pairs, file_of, file_with, load_of};
 use sst_meta::{IndexForm, names};
 use std::test::Fail;
 

@@ -7,7 +7,8 @@
 //! - [`blocks`]: blocks that are built, checked and walked, and what is wrong with some.
 //! - [`properties`]: names and their values in a block.
 //! - [`footers`]: the ends of files.
-//! - [`loading`]: what files say of themselves, and what is wrong with some.
+//! - [`loading`]: what files say of themselves, and what is wrong with some; [`loaded_files`] makes them.
+//! - [`faulty_properties`]: files whose properties are at fault, and what is told first.
 //! - [`forms`]: the form of an index, as the properties tell it.
 //! - [`lengths`]: the longest files that are loaded.
 //! - [`seeking`]: walks that go to a target and to a restart.
@@ -19,6 +20,8 @@
 
 #[cfg(test)]
 mod blocks;
+#[cfg(test)]
+mod faulty_properties;
 #[cfg(test)]
 mod filter_parts;
 #[cfg(test)]
@@ -33,6 +36,8 @@ mod index_walks;
 mod laws;
 #[cfg(test)]
 mod lengths;
+#[cfg(test)]
+mod loaded_files;
 #[cfg(test)]
 mod loading;
 #[cfg(test)]
