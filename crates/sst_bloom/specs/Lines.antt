@@ -1,8 +1,13 @@
 -- The bits that a user key takes in the lines of a filter.
 -- RocksDB: util/bloom_impl.h, LegacyLocalityBloomImpl.
 -- Pinned by: filter_of_one_key
-use Rattle.std.specs.Prelude.{ℕ, zero, suc, ◌+◌, ◌*◌, ◌/◌, ◌%◌, ◌^◌, ◌==◌, Bool, false, ◌||◌, List, [], ◌∷◌, slice_index}
+use Rattle.std.specs.Prelude.{ℕ, zero, suc, ◌+◌, ◌*◌, ◌/◌, ◌%◌, ◌^◌, ◌<◌, ◌==◌, Bool, false, ◌||◌, List, [], ◌∷◌, slice_index}
 use Rattle.sst_sums.specs.Hash.{hash32}
+
+-- each number is one of a byte
+-- For proofs alone.
+abbrev pub AreBytes : List ℕ → Type 0
+AreBytes bytes = (k : ℕ) → slice_index bytes k < 256
 
 -- the bit at a position of some bytes is set: bit p mod 8 of byte p / 8; beyond the bytes none is
 abbrev pub is_set : List ℕ → ℕ → Bool

@@ -1,8 +1,10 @@
 //! The builder of one filter.
-ghost use Rattle.std.specs.Prelude.{◌≡◌, ℕ, ◌+◌, ◌*◌, ◌<◌, ◌≤◌, List, [], ◌∷◌, ◌++◌, length, IfOk, OnOk, OnErr};
+ghost use Rattle.std.specs.Prelude.{◌≡◌, ℕ, ◌+◌, ◌*◌, ◌<◌, ◌≤◌, List, [], ◌∷◌, ◌++◌, length, map, IfOk, OnOk, OnErr};
+ghost use Rattle.std.specs.List.{range_with_len};
 ghost use Rattle.std.specs.Result.{IsErr};
 ghost use Rattle.sst_bloom.specs.Builder.{CanAddKey, CanFinish, HasFailed, HoldsKeys};
-ghost use Rattle.sst_bloom.specs.Filter.{bloom_filter, filter_of_hashes, lines_of, probes_of};
+ghost use Rattle.sst_bloom.specs.Lines.{some_takes};
+ghost use Rattle.sst_bloom.specs.Filter.{bloom_filter, byte_of, filter_of_hashes, lines_of, probes_of};
 
 use crate::lines::{LINE_BYTES, SEED, set_all};
 use sst_num::{Bytes, Memory, put_fixed32};
@@ -92,13 +94,22 @@ fn filter_of(alloc: Global, bits: u32, hashes: &[u32]) -> Result<Bytes, Memory>
 {
     let lines = line_count(hashes.len() as u32, bits);
     let probes = probe_count(bits);
-    let bytes = lines as usize * LINE_BYTES;
-    let mut filter = Vec::with_capacity(alloc, bytes + 5)?;
-    filter.resize(bytes, 0)?;
-    set_all(filter.as_mut_slice(), lines, probes, hashes);
+    let mut filter = lines_with(alloc, lines, probes, hashes)?;
     filter.push(probes)?;
     put_fixed32(&mut filter, lines)?;
     Ok(Bytes::from(filter))
+}
+
+/// Lines in which the bits of these hashes are set, with room for what stands after them.
+fn lines_with(alloc: Global, lines: u32, probes: u8, hashes: &[u32]) -> Result<Vec<u8>, Memory>
+    requires { 1 ≤ lines }
+    ensures { IfOk result (λ body. body.items ≡ map (byte_of (some_takes lines 64 hashes.now probes)) (range_with_len 0 (64 * lines))) }
+{
+    let bytes = lines as usize * LINE_BYTES;
+    let mut body = Vec::with_capacity(alloc, bytes + 5)?;
+    body.resize(bytes, 0)?;
+    set_all(body.as_mut_slice(), lines, probes, hashes);
+    Ok(body)
 }
 
 /// How many lines so many keys take.

@@ -1,7 +1,7 @@
 //! The bits of a filter's lines.
 ghost use Rattle.std.specs.Prelude.{◌≡◌, ℕ, ◌+◌, ◌*◌, ◌/◌, ◌%◌, ◌<◌, ◌≤◌, ◌==◌, ◌||◌, length};
 ghost use Rattle.sst_bloom.specs.Lines as lines;
-ghost use Rattle.sst_bloom.specs.Lines.{is_set, step_of, takes, some_takes};
+ghost use Rattle.sst_bloom.specs.Lines.{AreBytes, is_set, step_of, takes, some_takes};
 
 /// What the hash of each key begins with: `BloomHash` of RocksDB's util/hash.h.
 pub const SEED: u32 = 0xbc9f_1d34;
@@ -18,7 +18,8 @@ const LINE_BITS: u32 = 512;
 pub fn set_all(body: &mut [u8], lines: u32, probes: u8, hashes: &[u32])
     requires some { 1 ≤ lines }
     requires whole { length body.old ≡ 64 * lines }
-    ensures { (p : ℕ) → is_set body.new p ≡ (is_set body.old p || some_takes lines 64 hashes.now probes p) }
+    ensures bits { (p : ℕ) → is_set body.new p ≡ (is_set body.old p || some_takes lines 64 hashes.now probes p) }
+    ensures bytes { AreBytes body.old → AreBytes body.new }
 {
     for hash in hashes {
         set_probes(body, lines, probes, *hash);
@@ -31,7 +32,8 @@ pub fn set_all(body: &mut [u8], lines: u32, probes: u8, hashes: &[u32])
 fn set_probes(body: &mut [u8], lines: u32, probes: u8, hash: u32)
     requires some { 1 ≤ lines }
     requires whole { length body.old ≡ 64 * lines }
-    ensures { (p : ℕ) → is_set body.new p ≡ (is_set body.old p || takes lines 64 hash probes p) }
+    ensures bits { (p : ℕ) → is_set body.new p ≡ (is_set body.old p || takes lines 64 hash probes p) }
+    ensures bytes { AreBytes body.old → AreBytes body.new }
 {
     let line = (hash % lines) as usize * LINE_BITS as usize;
     let step = step_between(hash);
@@ -45,7 +47,8 @@ fn set_probes(body: &mut [u8], lines: u32, probes: u8, hash: u32)
 /// Sets the bit at a position.
 fn set_bit(body: &mut [u8], at: usize)
     requires { at < 8 * length body.old }
-    ensures { (p : ℕ) → is_set body.new p ≡ (is_set body.old p || (at == p)) }
+    ensures bits { (p : ℕ) → is_set body.new p ≡ (is_set body.old p || (at == p)) }
+    ensures bytes { AreBytes body.old → AreBytes body.new }
 {
     body[at / 8] |= 1 << (at % 8);
 }
