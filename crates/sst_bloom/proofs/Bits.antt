@@ -11,13 +11,13 @@ use Rattle.sst_bloom.specs.Lines.{AreBytes, is_set}
 same_or_other : (a b : ℕ) → (a ≡ b) ⊎ (a ≢ b)
 same_or_other a b = grind arith
 
-equal_tested : (a b : ℕ) → a ≡ b → (a == b) ≡ true
+pub equal_tested : (a b : ℕ) → a ≡ b → (a == b) ≡ true
 equal_tested a b e = grind (arith, nat_tests)
 
-apart_tested : (a b : ℕ) → a ≢ b → (a == b) ≡ false
+pub apart_tested : (a b : ℕ) → a ≢ b → (a == b) ≡ false
 apart_tested a b ne = grind (arith, nat_tests)
 
-or_true : (b : Bool) → (b || true) ≡ true
+pub or_true : (b : Bool) → (b || true) ≡ true
 or_true true = refl
 or_true false = refl
 

@@ -5,6 +5,7 @@ use Rattle.std.proofs.lemmas.Nat.Bits.{shr_and_one, bit_at-lt}
 use Rattle.std.proofs.lemmas.Bool.Decides.{nat_tests}
 use Rattle.sst_bloom.specs.Lines.{is_set, key_hash, position_of, step_of}
 use Rattle.sst_bloom.specs.Reading.{line_size, misses, denied_by, denies}
+use Rattle.sst_bloom.proofs.Bits.{or_true}
 use Rattle.sst_bloom.proofs.Powers.{position_parts, power_tested}
 
 -- the bit of a position by its byte and its place there
@@ -45,11 +46,7 @@ probe_set body lines size hash i h at power turned place set =
 pub turned_more : (hash i h step s : ℕ) → h ≡ (hash + i * s) % 2 ^ 32 → step ≡ s → (h + step) % 2 ^ 32 ≡ (hash + (i + 1) * s) % 2 ^ 32
 turned_more hash i h step s e same = omega arith
 
-or_true : (b : Bool) → (b || true) ≡ true
-or_true true = refl
-or_true false = refl
-
-last_or_before : (i n : ℕ) → i < suc n → (i ≡ n) ⊎ (i < n)
+pub last_or_before : (i n : ℕ) → i < suc n → (i ≡ n) ⊎ (i < n)
 last_or_before i n within = grind arith
 
 -- a probe whose bit isn't set, among more

@@ -22,13 +22,13 @@ bit_tested : (b : Bool) → ((if b then 1 else 0) == 1) ≡ b
 bit_tested true = refl
 bit_tested false = refl
 
-number_fits : (says : ℕ → Bool) (p n : ℕ) → number_of says p n < 2 ^ n
+pub number_fits : (says : ℕ → Bool) (p n : ℕ) → number_of says p n < 2 ^ n
 number_fits says p zero = omega arith
 number_fits says p (suc n) =
     let rest = number_fits says (p + 1) n in
     omega (arith, rest, bit_small (says p), pow-add 2 n 1)
 
-number_bit : (says : ℕ → Bool) (p n j : ℕ) → j < n → (bit_at (number_of says p n) j == 1) ≡ says (p + j)
+pub number_bit : (says : ℕ → Bool) (p n j : ℕ) → j < n → (bit_at (number_of says p n) j == 1) ≡ says (p + j)
 number_bit says p zero j within = absurd (omega arith)
 number_bit says p (suc n) zero within =
     let here : p ≡ p + 0 = omega arith in
