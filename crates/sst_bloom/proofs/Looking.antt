@@ -3,8 +3,8 @@ use Rattle.std.proofs.Common.{◌≡◌, ◌≢◌, ◌⊎◌, inl, inr, ℕ, ze
 use Rattle.std.specs.Int.{IsPowerOfTwo, is_power_of_two}
 use Rattle.std.proofs.lemmas.Nat.Bits.{shr_and_one, bit_at-lt}
 use Rattle.std.proofs.lemmas.Bool.Decides.{nat_tests}
-use Rattle.sst_bloom.specs.Lines.{is_set, key_hash, position_of, step_of}
-use Rattle.sst_bloom.specs.Reading.{line_size, misses, denied_by, denies}
+use Rattle.sst_bloom.specs.Lines.{is_set, position_of, step_of}
+use Rattle.sst_bloom.specs.Reading.{line_size, misses, denied_by, denied}
 use Rattle.sst_bloom.proofs.Bits.{or_true}
 use Rattle.sst_bloom.proofs.Powers.{position_parts, power_tested}
 
@@ -85,13 +85,15 @@ short_tested n short = grind (arith, nat_tests)
 long_tested : (n : ℕ) → 5 < n → nat_le n 5 ≡ false
 long_tested n long = grind (arith, nat_tests)
 
-pub denies_short : (filter user : List ℕ) → length filter ≤ 5 → denies filter user ≡ true
-unfolding denies
-denies_short filter user short =
-    ap (λ b. if b then true else denied_by (take (length filter - 5) filter) (drop (length filter - 5) filter) (key_hash user)) (short_tested (length filter) short)
+pub denied_short : (filter : List ℕ) (h : ℕ) → length filter ≤ 5 → denied filter h ≡ true
+unfolding denied
+denied_short filter h short =
+    ap (λ b. if b then true else denied_by (take (length filter - 5) filter) (drop (length filter - 5) filter) h) (short_tested (length filter) short)
 
-pub denies_long : (filter user : List ℕ) → 5 < length filter →
-    denied_by (take (length filter - 5) filter) (drop (length filter - 5) filter) (key_hash user) ≡ denies filter user
-unfolding denies
-denies_long filter user long =
-    sym (ap (λ b. if b then true else denied_by (take (length filter - 5) filter) (drop (length filter - 5) filter) (key_hash user)) (long_tested (length filter) long))
+pub denied_long : (filter : List ℕ) (h at : ℕ) → at + 5 ≡ length filter → 0 < at → denied_by (take at filter) (drop at filter) h ≡ denied filter h
+unfolding denied
+denied_long filter h at whole some =
+    let front : at ≡ length filter - 5 = omega arith in
+    let long : nat_le (length filter) 5 ≡ false = long_tested (length filter) (omega arith) in
+    ap (λ n. denied_by (take n filter) (drop n filter) h) front
+    ∙ sym (ap (λ b. if b then true else denied_by (take (length filter - 5) filter) (drop (length filter - 5) filter) h) long)
