@@ -16,3 +16,4 @@ pub mod Says
 pub mod Stand
 pub mod PairWalks
 pub mod Picks
+pub mod FilterPairs

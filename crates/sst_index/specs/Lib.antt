@@ -5,6 +5,7 @@ pub mod Top
 pub mod Ends
 pub mod IndexBytes
 pub mod Index
+pub mod FilterBytes
 pub mod Parted
 pub mod Partitions
 pub mod Walk

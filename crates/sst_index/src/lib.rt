@@ -104,6 +104,7 @@
 #![tactic(auto)]
 
 mod builder;
+mod filter_parts;
 mod flags;
 mod laws;
 mod pick;

@@ -184,7 +184,7 @@ impl IndexBuilder {
     }
 
     /// The key of a row of the top block.
-    fn top_key(&self, user_key: bool, row: usize) -> &[u8]
+    pub(crate) fn top_key(&self, user_key: bool, row: usize) -> &[u8]
         requires ready { (flags : declared.IndexFlags) × IsReady self.now flags }
         requires row { row < length (top_separators self.now.parts (kept_pairs user_key self.now)) }
         ensures { slice_get (top_separators self.now.parts (kept_pairs user_key self.now)) row ≡ Some result.now }
