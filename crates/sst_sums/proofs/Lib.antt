@@ -1,3 +1,4 @@
+pub mod Hashed
 pub mod Linear
 pub mod Slices
 pub mod Turned

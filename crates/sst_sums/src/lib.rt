@@ -41,8 +41,10 @@
 #![tactic(auto)]
 
 mod checksum;
+mod hash;
 mod masking;
 mod tables;
 
 pub use checksum::crc32c;
+pub use hash::hash32;
 pub use masking::{mask, unmask};

@@ -1,0 +1,6 @@
+pub mod Bits
+pub mod Looking
+pub mod Only
+pub mod Own
+pub mod Powers
+pub mod Told

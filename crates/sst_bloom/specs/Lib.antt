@@ -1,0 +1,4 @@
+pub mod Builder
+pub mod Filter
+pub mod Lines
+pub mod Reading
