@@ -87,9 +87,10 @@ lead-come at size [] sizes small near = tt
 lead-come at size (key ∷ keys) [] small near = tt
 lead-come at size (key ∷ keys) (next ∷ sizes) small near =
     let sum = sum_by-cons stored_size next sizes in
-    let less : next < 2 ^ 63 = omega (arith, near, sum) in
-    (record { begins = omega arith; signed = (omega (arith, ints, small, less), omega (arith, ints, small, less)) },
-    lead-come (at + stored_size size) next keys sizes less (omega (arith, near, sum)))
+    let less : next < 2 ^ 63 = omega (arith, near, sum) in (
+      record { begins = omega arith; signed = (omega (arith, ints, small, less), omega (arith, ints, small, less)) },
+      lead-come (at + stored_size size) next keys sizes less (omega (arith, near, sum)),
+    )
 
 lead-behind : (at : ℕ) (keys : List (List ℕ)) (sizes : List ℕ) → sum_by stored_size sizes < 2 ^ 63 → AreBehind (leading_pairs at keys sizes)
 lead-behind at [] sizes near = tt

@@ -17,3 +17,4 @@ pub mod Stand
 pub mod PairWalks
 pub mod Picks
 pub mod FilterPairs
+pub mod FilterEnds

@@ -6,6 +6,7 @@ pub mod Ends
 pub mod IndexBytes
 pub mod Index
 pub mod FilterBytes
+pub mod FilterParts
 pub mod Parted
 pub mod Partitions
 pub mod Walk

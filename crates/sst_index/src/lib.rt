@@ -114,6 +114,7 @@ mod walk;
 mod writing;
 
 pub use builder::IndexBuilder;
+pub use filter_parts::PartFilterBuilder;
 pub use flags::IndexFlags;
 pub use laws::{
     a_part_is_the_first_not_before, a_seek_passes_the_pairs_before, a_separator_ends,
