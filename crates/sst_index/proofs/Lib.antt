@@ -18,3 +18,4 @@ pub mod PairWalks
 pub mod Picks
 pub mod FilterPairs
 pub mod FilterEnds
+pub mod FilterKeys

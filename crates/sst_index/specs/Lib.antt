@@ -11,3 +11,4 @@ pub mod Parted
 pub mod Partitions
 pub mod Walk
 pub mod Pick
+pub mod FilterKeys

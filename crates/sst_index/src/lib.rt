@@ -104,6 +104,7 @@
 #![tactic(auto)]
 
 mod builder;
+mod filter_laws;
 mod filter_parts;
 mod flags;
 mod laws;
@@ -114,6 +115,7 @@ mod walk;
 mod writing;
 
 pub use builder::IndexBuilder;
+pub use filter_laws::no_key_of_a_part_is_denied;
 pub use filter_parts::PartFilterBuilder;
 pub use flags::IndexFlags;
 pub use laws::{

@@ -32,8 +32,8 @@ returns-clause-bytes c =
     let stored = c.in_ok-extend_from_slice.ensures.items ∙ ap (λ (l : List ℕ). a.out.now.items ++ l) c.deref-2.ensures.value in
     on_ok_weaker c.put_block.result
     (λ done bits parts o blocks holds leads.
-      end-bytes a.self a.index.now c.flags-flags.result a.interval a.base bits parts o blocks a.out.now.items c.extend_from_slice.new.self.items c.put_block.new.out.items
-      c.as_slice.result.now holds leads c.flags-flags.ensures top stored done)
+    end-bytes a.self a.index.now c.flags-flags.result a.interval a.base bits parts o blocks a.out.now.items c.extend_from_slice.new.self.items c.put_block.new.out.items
+    c.as_slice.result.now holds leads c.flags-flags.ensures top stored done)
     c.put_block.ensures.ok
 
 pub returns-clause-handle : goal.returns-clause-handle
@@ -45,8 +45,8 @@ returns-clause-handle c =
     let long = c.len.ensures ∙ sym c.deref-2.ensures.len ∙ ap length c.deref-2.ensures.value in
     IfOk-weaker c.put_block.result _ _
     (λ h stands bits parts o blocks holds leads.
-      end-handle a.self a.index.now c.flags-flags.result a.interval a.base bits parts o blocks c.as_slice.result.now h holds leads c.flags-flags.ensures top
-      (stands ∙ ap (λ (n : ℕ). record { offset = a.base + n; size = length c.as_slice.result.now }) long))
+    end-handle a.self a.index.now c.flags-flags.result a.interval a.base bits parts o blocks c.as_slice.result.now h holds leads c.flags-flags.ensures top
+    (stands ∙ ap (λ (n : ℕ). record { offset = a.base + n; size = length c.as_slice.result.now }) long))
     c.put_block.ensures.handle
 
 pub returns-clause-err : goal.returns-clause-err
