@@ -114,7 +114,7 @@ are_pairs u (e ∷ ends) each =
     All-cons (IsPair u) (pair_of u e) (map (pair_of u) ends) (is_pair u e (All-head IsEnd e ends each)) (are_pairs u ends (All-tail IsEnd e ends each))
 
 -- keys that are in order have user keys in order
-user-up_to : (a b : List ℕ) → internal_cmp a b ≢ Greater → slice_cmp nat_cmp (user_of a) (user_of b) ≢ Greater
+pub user-up_to : (a b : List ℕ) → internal_cmp a b ≢ Greater → slice_cmp nat_cmp (user_of a) (user_of b) ≢ Greater
 user-up_to a b most = λ more. most (ap (λ (r : Ordering). ordering_then r (nat_cmp (tag_of b) (tag_of a))) more)
 
 -- the separator of a block is before that of the next

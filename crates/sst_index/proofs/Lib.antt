@@ -16,3 +16,6 @@ pub mod Says
 pub mod Stand
 pub mod PairWalks
 pub mod Picks
+pub mod FilterPairs
+pub mod FilterEnds
+pub mod FilterKeys

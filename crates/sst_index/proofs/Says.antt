@@ -120,7 +120,7 @@ separators-of u (q ∷ pairs) each =
     let is = All-head (IsPair u) q pairs each in
     All-cons (IsSeparator u) q pairs (is.short, is.tagged) (separators-of u pairs (All-tail (IsPair u) q pairs each))
 
-tops-standing : (flags : IndexFlags) (interval base parts : ℕ) (pairs : List IndexPair) → base < 2 ^ 40 → Standing flags.user_key pairs
+pub tops-standing : (flags : IndexFlags) (interval base parts : ℕ) (pairs : List IndexPair) → base < 2 ^ 40 → Standing flags.user_key pairs
     → Standing flags.user_key (top_pairs flags interval parts base pairs)
 tops-standing flags interval base zero pairs near s = s
 tops-standing flags interval base (suc k) pairs near s =

@@ -5,7 +5,10 @@ pub mod Top
 pub mod Ends
 pub mod IndexBytes
 pub mod Index
+pub mod FilterBytes
+pub mod FilterParts
 pub mod Parted
 pub mod Partitions
 pub mod Walk
 pub mod Pick
+pub mod FilterKeys

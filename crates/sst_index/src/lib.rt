@@ -104,6 +104,8 @@
 #![tactic(auto)]
 
 mod builder;
+mod filter_laws;
+mod filter_parts;
 mod flags;
 mod laws;
 mod pick;
@@ -113,6 +115,8 @@ mod walk;
 mod writing;
 
 pub use builder::IndexBuilder;
+pub use filter_laws::no_key_of_a_part_is_denied;
+pub use filter_parts::PartFilterBuilder;
 pub use flags::IndexFlags;
 pub use laws::{
     a_part_is_the_first_not_before, a_seek_passes_the_pairs_before, a_separator_ends,

@@ -184,7 +184,7 @@ impl IndexBuilder {
     }
 
     /// The key of a row of the top block.
-    fn top_key(&self, user_key: bool, row: usize) -> &[u8]
+    pub(crate) fn top_key(&self, user_key: bool, row: usize) -> &[u8]
         requires ready { (flags : declared.IndexFlags) × IsReady self.now flags }
         requires row { row < length (top_separators self.now.parts (kept_pairs user_key self.now)) }
         ensures { slice_get (top_separators self.now.parts (kept_pairs user_key self.now)) row ≡ Some result.now }
@@ -209,7 +209,7 @@ fn in_form(user_key: bool, key: &[u8]) -> &[u8]
 }
 
 /// Appends a block that stands at this place in the file, with its trailer, and answers where it stands.
-fn put_block(at: u64, block: &[u8], out: &mut Vec<u8>) -> Result<Handle, Memory>
+pub fn put_block(at: u64, block: &[u8], out: &mut Vec<u8>) -> Result<Handle, Memory>
     ensures ok { OnOk result (out.new.items ≡ out.old.items ++ frame_of block.now) }
     ensures handle { IfOk result (λ h. h ≡ record { offset = at; size = length block.now }) }
     ensures err { OnErr result ((rest : List ℕ) × (out.new.items ≡ out.old.items ++ rest)) }
