@@ -1,13 +1,14 @@
 -- Where the moves of a walk over the pairs of an index block go.
-use Rattle.std.proofs.Common.{◌≡◌, ℕ, ◌-◌, nat_lt, Bool, false, None, List, length}
+use Rattle.std.proofs.Common.{◌≡◌, ℕ, ◌-◌, nat_lt, Bool, false, Option, None, List, length}
 use Rattle.sst_block.specs.Block.{Row, Block}
 use Rattle.sst_block.specs.IndexRows.{IndexPair, IndexRows}
 use Rattle.sst_block.specs.Iter.{place_before}
 use Rattle.sst_block.proofs.OneReading.{some-pairs}
 use Rattle.sst_index.specs.declared.flags.IndexFlags.{IndexFlags}
 use Rattle.sst_index.specs.declared.walk.IndexIter.{IndexIter}
+use Rattle.sst_index.specs.declared.walk.IndexPlace.{IndexPlace}
 use Rattle.sst_index.specs.IndexBlock.{form_of}
-use Rattle.sst_index.specs.Walk.{WalksPairs, Walking, pair_place}
+use Rattle.sst_index.specs.Walk.{PausedPairs, WalksPairs, Walking, pair_place}
 use Rattle.sst_index.proofs.PairWalks.{stands, stands-last, stands-before}
 use Rattle.sst_tests_blocks.specs.IndexWalks.{Goes}
 
@@ -44,3 +45,8 @@ begins it flags bytes rows block starts =
 
 pub goes-nowhere : (it : IndexIter) → Walking it → Goes it false
 goes-nowhere it walks = record { walks = walks; there = λ never. cc }
+
+-- what was paused over an index block was paused over a copy of it
+pub paused-copy : (p : IndexPlace) (flags : IndexFlags) (bytes copy : List ℕ) (pairs : List IndexPair) (place : Option ℕ) → copy ≡ bytes
+    → PausedPairs p flags bytes pairs place → PausedPairs p flags copy pairs place
+paused-copy p flags bytes copy pairs place same w = rw same w
