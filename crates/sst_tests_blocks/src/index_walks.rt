@@ -1,4 +1,4 @@
-//! Tests of walks over the pairs of an index block.
+//! Tests of walks over the pairs of an index block, which are paused and go on over a copy of it.
 //!
 //! RocksDB: `IndexBlockIter` in table/block_based/block.cc.
 ghost use Rattle.std.specs.Prelude.{◌≤◌, ◌^◌, length};

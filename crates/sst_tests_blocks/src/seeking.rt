@@ -1,4 +1,4 @@
-//! Tests of walks that go to a target and to a restart.
+//! Tests of walks that go to a target, are paused there and go on over a copy of the block; and of walks to a restart.
 //!
 //! RocksDB: `Seek` and `SeekToRestartPoint` in table/block_based/block.cc.
 ghost use Rattle.std.specs.Prelude.{◌≡◌, ◌≤◌, ◌^◌, true, length};

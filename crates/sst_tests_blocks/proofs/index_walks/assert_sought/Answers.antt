@@ -1,8 +1,7 @@
-use Rattle.std.proofs.Common.{None, true, ◌∙◌}
-use Rattle.sst_block.proofs.OneReading.{some-pairs}
+use Rattle.std.proofs.Common.{true, ◌∙◌}
 use Rattle.sst_index.specs.declared.flags.IndexFlags.{IndexFlags}
-use Rattle.sst_index.specs.Walk.{pair_place, pairs_before}
-use Rattle.sst_tests_blocks.proofs.IndexWalks.{begins, goes-to, paused-copy}
+use Rattle.sst_index.specs.Walk.{pair_place}
+use Rattle.sst_tests_blocks.proofs.IndexWalks.{begins, sought, found-goes, found-paused, paused-found}
 use Rattle.sst_tests_blocks.proofs.index_walks.assert_sought.Goals as goal
 
 pub start-walk-requires : goal.start-walk-requires
@@ -18,48 +17,29 @@ pub assert_at-requires : goal.assert_at-requires
 assert_at-requires g c =
     let (rows, block, many) = c.in-Ok.ensures.accepts in
     let flags : IndexFlags = record { user_key = c.args.sought.1; delta = true } in
-    let bytes = c.args.sought.0.now in
-    let (pairs, says) = some-pairs flags.user_key true bytes rows block in
-    let w = c.start-walk.ensures pairs says in
-    let i = pairs_before flags.user_key c.args.sought.2.now c.args.sought.3 pairs in
-    let at = c.seek-there.ensures.moves flags bytes pairs None w in
-    let told = c.seek-there.ensures.tells flags bytes pairs None w in
-    goes-to _ flags bytes pairs i _ told at
+    let f = sought c.start-walk.result _ flags _ rows _ _ _ block c.start-walk.ensures c.seek-there.ensures.moves c.seek-there.ensures.tells in
+    found-goes _ flags _ _ f
 
 pub resume-again-requires : goal.resume-again-requires
 resume-again-requires g c =
     let (rows, block, many) = c.in-Ok.ensures.accepts in
     let flags : IndexFlags = record { user_key = c.args.sought.1; delta = true } in
-    let bytes = c.args.sought.0.now in
-    let (pairs, says) = some-pairs flags.user_key true bytes rows block in
-    let w = c.start-walk.ensures pairs says in
-    let i = pairs_before flags.user_key c.args.sought.2.now c.args.sought.3 pairs in
-    let at = c.seek-there.ensures.moves flags bytes pairs None w in
-    let paused = paused-copy _ flags bytes c.as_slice-same.result.now pairs (pair_place pairs i) (c.as_slice-same.ensures ∙ c.in_ok-copy.ensures) (c.pause-place.ensures flags bytes pairs (pair_place pairs i) at) in
-    (pairs, pair_place pairs i, paused)
+    let f = sought c.start-walk.result _ flags _ rows _ _ _ block c.start-walk.ensures c.seek-there.ensures.moves c.seek-there.ensures.tells in
+    let p = found-paused _ _ flags _ _ _ f c.pause-place.ensures (c.as_slice-same.ensures ∙ c.in_ok-copy.ensures) in
+    (p.pairs, pair_place p.pairs p.i, p.paused)
 
 pub assert_at-requires-in-Ok : goal.assert_at-requires-in-Ok
 assert_at-requires-in-Ok g c =
     let (rows, block, many) = c.in-Ok.ensures.accepts in
     let flags : IndexFlags = record { user_key = c.args.sought.1; delta = true } in
-    let bytes = c.args.sought.0.now in
-    let (pairs, says) = some-pairs flags.user_key true bytes rows block in
-    let w = c.start-walk.ensures pairs says in
-    let i = pairs_before flags.user_key c.args.sought.2.now c.args.sought.3 pairs in
-    let at = c.seek-there.ensures.moves flags bytes pairs None w in
-    let told = c.seek-there.ensures.tells flags bytes pairs None w in
-    let paused = paused-copy _ flags bytes c.as_slice-same.result.now pairs (pair_place pairs i) (c.as_slice-same.ensures ∙ c.in_ok-copy.ensures) (c.pause-place.ensures flags bytes pairs (pair_place pairs i) at) in
-    goes-to _ flags c.as_slice-same.result.now pairs i _ told (c.resume-again.ensures pairs (pair_place pairs i) paused)
+    let f = sought c.start-walk.result _ flags _ rows _ _ _ block c.start-walk.ensures c.seek-there.ensures.moves c.seek-there.ensures.tells in
+    let p = found-paused _ _ flags _ _ _ f c.pause-place.ensures (c.as_slice-same.ensures ∙ c.in_ok-copy.ensures) in
+    found-goes _ flags _ _ (paused-found _ _ flags _ _ p c.resume-again.ensures)
 
 pub moved-more-requires : goal.moved-more-requires
 moved-more-requires g c =
     let (rows, block, many) = c.in-Ok.ensures.accepts in
     let flags : IndexFlags = record { user_key = c.args.sought.1; delta = true } in
-    let bytes = c.args.sought.0.now in
-    let (pairs, says) = some-pairs flags.user_key true bytes rows block in
-    let w = c.start-walk.ensures pairs says in
-    let i = pairs_before flags.user_key c.args.sought.2.now c.args.sought.3 pairs in
-    let at = c.seek-there.ensures.moves flags bytes pairs None w in
-    let told = c.seek-there.ensures.tells flags bytes pairs None w in
-    let paused = paused-copy _ flags bytes c.as_slice-same.result.now pairs (pair_place pairs i) (c.as_slice-same.ensures ∙ c.in_ok-copy.ensures) (c.pause-place.ensures flags bytes pairs (pair_place pairs i) at) in
-    goes-to _ flags c.as_slice-same.result.now pairs i _ told (c.resume-again.ensures pairs (pair_place pairs i) paused)
+    let f = sought c.start-walk.result _ flags _ rows _ _ _ block c.start-walk.ensures c.seek-there.ensures.moves c.seek-there.ensures.tells in
+    let p = found-paused _ _ flags _ _ _ f c.pause-place.ensures (c.as_slice-same.ensures ∙ c.in_ok-copy.ensures) in
+    found-goes _ flags _ _ (paused-found _ _ flags _ _ p c.resume-again.ensures)

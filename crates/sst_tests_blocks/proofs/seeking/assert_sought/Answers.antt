@@ -1,7 +1,6 @@
 use Rattle.std.proofs.Common.{None, ◌∙◌}
 use Rattle.sst_block.specs.Iter.{place_of}
-use Rattle.sst_block.specs.Seek.{rows_before}
-use Rattle.sst_tests_blocks.proofs.BlockWalks.{goes-in, paused-there, paused-copy}
+use Rattle.sst_tests_blocks.proofs.BlockWalks.{sought, found-goes, found-paused, paused-there, paused-found}
 use Rattle.sst_tests_blocks.proofs.seeking.assert_sought.Goals as goal
 
 pub start-walk-requires : goal.start-walk-requires
@@ -15,62 +14,39 @@ seek-there-requires g c =
 
 pub assert_row-requires : goal.assert_row-requires
 assert_row-requires g c =
-    let form = c.args.form in
-    let bytes = c.args.sought.0.now in
-    let target = c.args.sought.1.now in
     let (rows, block, many) = c.in-Ok.ensures.accepts in
     let w = c.start-walk.ensures.within rows block in
-    let at = c.seek-there.ensures.within form bytes rows block None w c.requires.target in
-    let told = c.seek-there.ensures.tells form bytes rows block None w c.requires.target in
-    (goes-in _ form bytes rows block (rows_before form target rows) _ told at).there
+    let f = sought _ _ c.args.form _ rows block _ _ w c.requires.target c.seek-there.ensures.within c.seek-there.ensures.tells in
+    (found-goes _ c.args.form _ _ f).there
 
 pub assert_place-requires : goal.assert_place-requires
 assert_place-requires g c =
-    let form = c.args.form in
-    let bytes = c.args.sought.0.now in
-    let target = c.args.sought.1.now in
     let (rows, block, many) = c.in-Ok.ensures.accepts in
     let w = c.start-walk.ensures.within rows block in
-    let at = c.seek-there.ensures.within form bytes rows block None w c.requires.target in
-    let told = c.seek-there.ensures.tells form bytes rows block None w c.requires.target in
-    let place = place_of rows (rows_before form target rows) in
-    let (copied, paused) = paused-copy _ form bytes c.as_slice-same.result.now rows block place (c.as_slice-same.ensures ∙ c.in_ok-copy.ensures) (c.pause-place.ensures form bytes rows block place at) in
-    paused-there _ form c.as_slice-same.result.now rows copied (rows_before form target rows) _ told paused
+    let f = sought _ _ c.args.form _ rows block _ _ w c.requires.target c.seek-there.ensures.within c.seek-there.ensures.tells in
+    let p = found-paused _ _ c.args.form _ _ _ f c.pause-place.ensures (c.as_slice-same.ensures ∙ c.in_ok-copy.ensures) in
+    paused-there _ c.args.form _ _ p
 
 pub resume-again-requires : goal.resume-again-requires
 resume-again-requires g c =
-    let form = c.args.form in
-    let bytes = c.args.sought.0.now in
-    let target = c.args.sought.1.now in
     let (rows, block, many) = c.in-Ok.ensures.accepts in
     let w = c.start-walk.ensures.within rows block in
-    let at = c.seek-there.ensures.within form bytes rows block None w c.requires.target in
-    let place = place_of rows (rows_before form target rows) in
-    let (copied, paused) = paused-copy _ form bytes c.as_slice-same.result.now rows block place (c.as_slice-same.ensures ∙ c.in_ok-copy.ensures) (c.pause-place.ensures form bytes rows block place at) in
-    (rows, copied, place, paused)
+    let f = sought _ _ c.args.form _ rows block _ _ w c.requires.target c.seek-there.ensures.within c.seek-there.ensures.tells in
+    let p = found-paused _ _ c.args.form _ _ _ f c.pause-place.ensures (c.as_slice-same.ensures ∙ c.in_ok-copy.ensures) in
+    (p.rows, p.block, place_of p.rows p.i, p.paused)
 
 pub assert_row-requires-in-Ok : goal.assert_row-requires-in-Ok
 assert_row-requires-in-Ok g c =
-    let form = c.args.form in
-    let bytes = c.args.sought.0.now in
-    let target = c.args.sought.1.now in
     let (rows, block, many) = c.in-Ok.ensures.accepts in
     let w = c.start-walk.ensures.within rows block in
-    let at = c.seek-there.ensures.within form bytes rows block None w c.requires.target in
-    let told = c.seek-there.ensures.tells form bytes rows block None w c.requires.target in
-    let place = place_of rows (rows_before form target rows) in
-    let (copied, paused) = paused-copy _ form bytes c.as_slice-same.result.now rows block place (c.as_slice-same.ensures ∙ c.in_ok-copy.ensures) (c.pause-place.ensures form bytes rows block place at) in
-    (goes-in _ form c.as_slice-same.result.now rows copied (rows_before form target rows) _ told (c.resume-again.ensures.within rows copied place paused)).there
+    let f = sought _ _ c.args.form _ rows block _ _ w c.requires.target c.seek-there.ensures.within c.seek-there.ensures.tells in
+    let p = found-paused _ _ c.args.form _ _ _ f c.pause-place.ensures (c.as_slice-same.ensures ∙ c.in_ok-copy.ensures) in
+    (found-goes _ c.args.form _ _ (paused-found _ _ c.args.form _ _ p c.resume-again.ensures.within)).there
 
 pub goes_on-more-requires : goal.goes_on-more-requires
 goes_on-more-requires g c =
-    let form = c.args.form in
-    let bytes = c.args.sought.0.now in
-    let target = c.args.sought.1.now in
     let (rows, block, many) = c.in-Ok.ensures.accepts in
     let w = c.start-walk.ensures.within rows block in
-    let at = c.seek-there.ensures.within form bytes rows block None w c.requires.target in
-    let told = c.seek-there.ensures.tells form bytes rows block None w c.requires.target in
-    let place = place_of rows (rows_before form target rows) in
-    let (copied, paused) = paused-copy _ form bytes c.as_slice-same.result.now rows block place (c.as_slice-same.ensures ∙ c.in_ok-copy.ensures) (c.pause-place.ensures form bytes rows block place at) in
-    goes-in _ form c.as_slice-same.result.now rows copied (rows_before form target rows) _ told (c.resume-again.ensures.within rows copied place paused)
+    let f = sought _ _ c.args.form _ rows block _ _ w c.requires.target c.seek-there.ensures.within c.seek-there.ensures.tells in
+    let p = found-paused _ _ c.args.form _ _ _ f c.pause-place.ensures (c.as_slice-same.ensures ∙ c.in_ok-copy.ensures) in
+    found-goes _ c.args.form _ _ (paused-found _ _ c.args.form _ _ p c.resume-again.ensures.within)
