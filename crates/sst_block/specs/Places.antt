@@ -1,7 +1,7 @@
 -- What is kept of a walk over the rows of a block that was paused. It has no bytes of the block but a key, so the block may go,
 -- and the walk goes on over the same bytes once they are there again.
 -- Own.
--- Pinned by: pause, resume.within
+-- Pinned by: pause, resume.within, seeks
 use Rattle.std.specs.Prelude.{◌≡◌, ℕ, ◌+◌, true, false, List, ◌∷◌, length, take, drop, Option, None, Some, slice_get}
 use Rattle.std.specs.List.{flat_map}
 use Rattle.sst_block.specs.declared.row_form.RowForm.{RowForm}

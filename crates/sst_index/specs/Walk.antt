@@ -23,7 +23,7 @@ pub record WalksPairs (it : IndexIter) (flags : IndexFlags) (bytes : List ℕ) (
 
 -- the walk over the pairs that the block says was paused at the place
 -- Own.
--- Pinned by: pause, resume, walks_of_an_index
+-- Pinned by: pause, resume, seeks_in_an_index
 pub record PausedPairs (p : IndexPlace) (flags : IndexFlags) (bytes : List ℕ) (pairs : List IndexPair) (place : Option ℕ) : Type 0 where
   pub says : IndexRows flags.user_key flags.delta bytes pairs
   pub paused : PausedIn p.place (form_of flags) bytes says.rows says.block place
@@ -37,14 +37,14 @@ pair_place pairs i = if nat_lt i (length pairs) then Some i else None
 -- the separator of a pair is before a target, which is a user key and a tag; one that is a user key is compared with the user
 -- key alone
 -- RocksDB: block.cc, CompareCurrentKey; db/dbformat.h, InternalKeyComparator::Compare
--- Pinned by: a_seek_passes_the_pairs_before, seek.moves, walks_of_an_index
+-- Pinned by: a_seek_passes_the_pairs_before, seek.moves, seeks_in_an_index
 abbrev pub is_pair_before : Bool → List ℕ → ℕ → IndexPair → Bool
 is_pair_before true user tag pair = is_lt (slice_cmp nat_cmp pair.separator user)
 is_pair_before false user tag pair =
     is_lt (ordering_then (slice_cmp nat_cmp (user_of pair.separator) user) (nat_cmp tag (tag_of pair.separator)))
 
 -- how many pairs are before the target; where there is a pair of this number it is the first that isn't
--- Pinned by: a_seek_passes_the_pairs_before, seek.moves, walks_of_an_index
+-- Pinned by: a_seek_passes_the_pairs_before, seek.moves, seeks_in_an_index
 abbrev pub pairs_before : Bool → List ℕ → ℕ → List IndexPair → ℕ
 pairs_before user_key user tag pairs = count_by (is_pair_before user_key user tag) pairs
 

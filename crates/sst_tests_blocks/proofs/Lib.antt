@@ -1,3 +1,4 @@
 pub mod BackWalks
 pub mod LedBlocks
+pub mod BlockWalks
 pub mod IndexWalks

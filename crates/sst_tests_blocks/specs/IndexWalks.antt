@@ -1,6 +1,6 @@
 -- What a test of a walk over the pairs of an index block knows.
 -- Own.
--- Pinned by: walks_of_an_index
+-- Pinned by: walks_of_an_index, seeks_in_an_index
 use Rattle.std.specs.Prelude.{◌≡◌, ℕ, Bool, true, List, Some}
 use Rattle.sst_block.specs.IndexRows.{IndexPair}
 use Rattle.sst_index.specs.declared.flags.IndexFlags.{IndexFlags}

@@ -1,2 +1,3 @@
 pub mod LedBlocks
+pub mod BlockWalks
 pub mod IndexWalks

@@ -1,12 +1,13 @@
-//! Tests of walks over the pairs of an index block.
+//! Tests of walks over the pairs of an index block, which are paused and go on over a copy of it.
 //!
 //! RocksDB: `IndexBlockIter` in table/block_based/block.cc.
 ghost use Rattle.std.specs.Prelude.{◌≤◌, ◌^◌, length};
-ghost use Rattle.sst_tests_blocks.specs.IndexWalks.{Goes, StandsThere};
+ghost use Rattle.sst_tests_blocks.specs.IndexWalks.{Goes};
 
 use sst_block::{RowForm, check_block};
 use sst_index::{IndexFlags, IndexIter};
 use sst_key::KeyRoom;
+use sst_num::Bytes;
 use std::alloc::Global;
 use std::process::Abort;
 use std::test::Fail;
@@ -38,32 +39,44 @@ const LONG_BEFORE: &[u8] = &[b'j'; 300];
 
 const LONG_AFTER: &[u8] = &[b'k'; 300];
 
-/// A block, and whether its separators are user keys; a user key and a tag; and the first pair that isn't before this target.
-type Sought = (&'static [u8], bool, &'static [u8], u64, Option<Pair>);
+/// A block, and whether its separators are user keys; a user key and a tag; the first pair that isn't before this target; and the
+/// pair behind it, or from nowhere the first of all.
+type Sought = (
+    &'static [u8],
+    bool,
+    &'static [u8],
+    u64,
+    Option<Pair>,
+    Option<Pair>,
+);
 
 static SOUGHT: [Sought; 14] = [
-    (STORED, false, b"j", 0, Some(AT_9)),
-    (STORED, false, b"k", 0xaff, Some(AT_9)),
-    (STORED, false, b"k", 0x901, Some(AT_9)),
+    (STORED, false, b"j", 0, Some(AT_9), Some(AT_5)),
+    (STORED, false, b"k", 0xaff, Some(AT_9), Some(AT_5)),
+    (STORED, false, b"k", 0x901, Some(AT_9), Some(AT_5)),
     // The greater tag comes first.
-    (STORED, false, b"k", 0x900, Some(AT_5)),
-    (STORED, false, b"k", 0x501, Some(AT_5)),
-    (STORED, false, b"k", 0x201, Some(AT_2)),
-    (STORED, false, b"k", 0x200, None),
-    (STORED, false, LONG_BEFORE, 0, Some(AT_9)),
-    (STORED, false, LONG_AFTER, 0xaff, None),
+    (STORED, false, b"k", 0x900, Some(AT_5), Some(AT_2)),
+    (STORED, false, b"k", 0x501, Some(AT_5), Some(AT_2)),
+    (STORED, false, b"k", 0x201, Some(AT_2), None),
+    (STORED, false, b"k", 0x200, None, Some(AT_9)),
+    (STORED, false, LONG_BEFORE, 0, Some(AT_9), Some(AT_5)),
+    (STORED, false, LONG_AFTER, 0xaff, None, Some(AT_9)),
     // No tag is looked at.
-    (USER_KEYS, true, b"ab", 0, Some(AB)),
-    (USER_KEYS, true, b"ab", 0xaff, Some(AB)),
-    (USER_KEYS, true, b"abc", 0xaff, Some(AD)),
-    (USER_KEYS, true, b"ad", 0, Some(AD)),
-    (USER_KEYS, true, b"ae", 0xaff, None),
+    (USER_KEYS, true, b"ab", 0, Some(AB), Some(AD)),
+    (USER_KEYS, true, b"ab", 0xaff, Some(AB), Some(AD)),
+    (USER_KEYS, true, b"abc", 0xaff, Some(AD), None),
+    (USER_KEYS, true, b"ad", 0, Some(AD), None),
+    (USER_KEYS, true, b"ae", 0xaff, None, Some(AB)),
 ];
 
-/// The walk stands at this pair.
-fn assert_at(rt: &impl Abort, walk: &IndexIter, pair: Option<Pair>)
-    requires { StandsThere walk.now }
+/// The walk stands at this pair, if it stands at one.
+fn assert_at(rt: &impl Abort, walk: &IndexIter, there: bool, pair: Option<Pair>)
+    requires { Goes walk.now there }
 {
+    assert_eq!(rt; there, pair.is_some());
+    if !there {
+        return;
+    }
     let handle = walk.handle();
     let found = (
         walk.separator(),
@@ -74,12 +87,14 @@ fn assert_at(rt: &impl Abort, walk: &IndexIter, pair: Option<Pair>)
     assert_eq!(rt; Some(found), pair);
 }
 
-/// A walk over the block goes to this target: to the pair, or to nowhere.
+/// A walk over the block goes to this target: to the pair, or to nowhere. It is paused there, and goes on over a copy of the block.
 fn assert_sought(rt: &impl Abort, alloc: Global, sought: Sought) -> Result<(), Fail>
     requires short { length sought.0.now ≤ 2 ^ 29 }
     requires user { length sought.2.now ≤ 65536 }
 {
-    let (block, user_key, user, tag, pair) = sought;
+    let (block, user_key, user, tag, pair, after) = sought;
+    let copy = Bytes::from_slice(alloc, block)?;
+    let same = copy.as_slice();
     let flags = IndexFlags {
         user_key,
         delta: true,
@@ -93,10 +108,12 @@ fn assert_sought(rt: &impl Abort, alloc: Global, sought: Sought) -> Result<(), F
         Ok(_) => {
             let mut walk = IndexIter::start(block, flags, room);
             let there = walk.seek(user, tag);
-            assert_eq!(rt; there, pair.is_some());
-            if there {
-                assert_at(rt, &walk, pair);
-            }
+            assert_at(rt, &walk, there, pair);
+            let place = walk.pause();
+            let mut again = IndexIter::resume(same, flags, place);
+            assert_at(rt, &again, there, pair);
+            let more = moved(&mut again, there, Step::Next);
+            assert_at(rt, &again, more, after);
         }
         Err(refused) => panic!(rt; "refused: {refused:?}"),
     }
@@ -171,10 +188,7 @@ fn walks_of_an_index(rt: HostRuntime) -> Result<(), Fail> {
             let mut stands = false;
             for (step, pair) in STEPS {
                 stands = moved(&mut walk, stands, step);
-                assert_eq!(rt; stands, pair.is_some());
-                if stands {
-                    assert_at(&rt, &walk, pair);
-                }
+                assert_at(&rt, &walk, stands, pair);
             }
         }
         Err(refused) => panic!(rt; "refused: {refused:?}"),

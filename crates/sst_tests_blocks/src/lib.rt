@@ -11,9 +11,9 @@
 //! - [`faulty_properties`]: files whose properties are at fault, and what is told first.
 //! - [`forms`]: the form of an index, as the properties tell it.
 //! - [`lengths`]: the longest files that are loaded.
-//! - [`seeking`]: walks that go to a target and to a restart.
+//! - [`seeking`]: walks that go to a target, are paused and go on, and walks to a restart.
 //! - [`index`]: the keys between blocks, and the bytes of some indexes.
-//! - [`index_walks`]: walks over the pairs of an index block.
+//! - [`index_walks`]: walks over the pairs of an index block, which are paused and go on.
 //! - [`filter_parts`]: filters in parts, and which part has a user key.
 //! - [`laws`]: the laws of these crates, and of what a file stands for.
 #![tactic(auto)]

@@ -8,8 +8,8 @@
 //! `sst_tests_blocks`, on the calls that find it. Expected damages are worked by hand from the layout of the format, and the
 //! checksums are those of an independent program, never of this one.
 //!
-//! - [`damaged`]: files whose footer is damaged, or a block; [`one_damage`] and [`two_damages`] are tables of them, and
-//!   [`pieces`] has the bytes of which they are made.
+//! - [`damaged`]: files whose footer is damaged, or a block; [`pieces`] has the bytes of which they are made.
+//! - [`two_damages`]: such files with two damages or more, of which the first is told.
 //! - [`named`]: files whose metaindex or properties are damaged, or with a mark that isn't read yet.
 //! - [`parts`]: files whose index is in parts, or of another form, and is damaged.
 //! - [`large`]: blocks and keys past their limits. These files take a gigabyte of memory.
@@ -25,8 +25,6 @@ mod large;
 mod long_file;
 #[cfg(test)]
 mod named;
-#[cfg(test)]
-mod one_damage;
 #[cfg(test)]
 mod parts;
 #[cfg(test)]

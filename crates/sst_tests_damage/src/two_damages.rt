@@ -1,5 +1,7 @@
-//! Files with two damages or more, and the first of them, which is printed after `damage`. [`crate::damaged`] says how they
-//! are made.
+//! Files with two damages or more, of which the first is told. [`crate::damaged`] says what the rows of the table are.
+//!
+//! RocksDB: the order is that of `BlockBasedTable::Open` in table/block_based/block_based_table_reader.cc.
+use crate::damaged::assert_damaged;
 use crate::pieces::{
     FIRST, FRONT_OF_TWO, INDEX_OF_TWO, INDEX_RESTARTS, PLAIN_MAGIC, RESTARTS, SECOND, SECOND_DATA,
     SECOND_INDEX_ROW, SECOND_ROW, TWO_BLOCKS_INDEX,
@@ -7,9 +9,10 @@ use crate::pieces::{
 use sst_tests_shared::small_file::{
     DATA, FRONT, INDEX, INDEX_ROW, MAGIC, METAINDEX, ONE_RESTART, ROW, TAIL, VERSION, ZEROS,
 };
+use std::test::Fail;
 
 /// Files with two damages or more, and the first of them.
-pub(crate) static FIRST_OF_TWO: [(&[&str], &str); 30] = [
+static FIRST_OF_TWO: [(&[&str], &str); 30] = [
     // The version before the type of checksum, and that before the handles; the magic number before all of them.
     (
         &[
@@ -426,3 +429,8 @@ pub(crate) static FIRST_OF_TWO: [(&[&str], &str); 30] = [
         "checksum 26 21",
     ),
 ];
+
+#[test]
+fn the_first_of_two_damages(rt: HostRuntime) -> Result<(), Fail> {
+    assert_damaged(&rt, rt.alloc(), &FIRST_OF_TWO)
+}

@@ -1,8 +1,7 @@
-use Rattle.std.proofs.Common.{true}
+use Rattle.std.proofs.Common.{true, ◌∙◌}
 use Rattle.sst_index.specs.declared.flags.IndexFlags.{IndexFlags}
-use Rattle.sst_index.specs.Walk.{pairs_before}
-use Rattle.sst_index.proofs.PairWalks.{stands}
-use Rattle.sst_tests_blocks.proofs.IndexWalks.{begins}
+use Rattle.sst_index.specs.Walk.{pair_place}
+use Rattle.sst_tests_blocks.proofs.IndexWalks.{begins, sought, found-goes, found-paused, paused-found}
 use Rattle.sst_tests_blocks.proofs.index_walks.assert_sought.Goals as goal
 
 pub start-walk-requires : goal.start-walk-requires
@@ -18,7 +17,29 @@ pub assert_at-requires : goal.assert_at-requires
 assert_at-requires g c =
     let (rows, block, many) = c.in-Ok.ensures.accepts in
     let flags : IndexFlags = record { user_key = c.args.sought.1; delta = true } in
-    let w = begins c.start-walk.result flags c.args.sought.0.now rows block c.start-walk.ensures in
-    let i = pairs_before w.flags.user_key c.args.sought.2.now c.args.sought.3 w.pairs in
-    let told = c.seek-there.ensures.tells w.flags w.bytes w.pairs w.place w.walks in
-    (w.flags, w.bytes, w.pairs, i, stands _ w.flags w.bytes w.pairs i c.seek-there.result c.if-there.true told (c.seek-there.ensures.moves w.flags w.bytes w.pairs w.place w.walks))
+    let f = sought c.start-walk.result _ flags _ rows _ _ _ block c.start-walk.ensures c.seek-there.ensures.moves c.seek-there.ensures.tells in
+    found-goes _ flags _ _ f
+
+pub resume-again-requires : goal.resume-again-requires
+resume-again-requires g c =
+    let (rows, block, many) = c.in-Ok.ensures.accepts in
+    let flags : IndexFlags = record { user_key = c.args.sought.1; delta = true } in
+    let f = sought c.start-walk.result _ flags _ rows _ _ _ block c.start-walk.ensures c.seek-there.ensures.moves c.seek-there.ensures.tells in
+    let p = found-paused _ _ flags _ _ _ f c.pause-place.ensures (c.as_slice-same.ensures ∙ c.in_ok-copy.ensures) in
+    (p.pairs, pair_place p.pairs p.i, p.paused)
+
+pub assert_at-requires-in-Ok : goal.assert_at-requires-in-Ok
+assert_at-requires-in-Ok g c =
+    let (rows, block, many) = c.in-Ok.ensures.accepts in
+    let flags : IndexFlags = record { user_key = c.args.sought.1; delta = true } in
+    let f = sought c.start-walk.result _ flags _ rows _ _ _ block c.start-walk.ensures c.seek-there.ensures.moves c.seek-there.ensures.tells in
+    let p = found-paused _ _ flags _ _ _ f c.pause-place.ensures (c.as_slice-same.ensures ∙ c.in_ok-copy.ensures) in
+    found-goes _ flags _ _ (paused-found _ _ flags _ _ p c.resume-again.ensures)
+
+pub moved-more-requires : goal.moved-more-requires
+moved-more-requires g c =
+    let (rows, block, many) = c.in-Ok.ensures.accepts in
+    let flags : IndexFlags = record { user_key = c.args.sought.1; delta = true } in
+    let f = sought c.start-walk.result _ flags _ rows _ _ _ block c.start-walk.ensures c.seek-there.ensures.moves c.seek-there.ensures.tells in
+    let p = found-paused _ _ flags _ _ _ f c.pause-place.ensures (c.as_slice-same.ensures ∙ c.in_ok-copy.ensures) in
+    found-goes _ flags _ _ (paused-found _ _ flags _ _ p c.resume-again.ensures)

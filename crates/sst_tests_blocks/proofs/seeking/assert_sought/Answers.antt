@@ -1,6 +1,6 @@
-use Rattle.std.proofs.Common.{None, sym, ◌∙◌}
-use Rattle.sst_block.specs.Seek.{rows_before}
-use Rattle.sst_block.proofs.Walking.{walks-of, Moved-stands}
+use Rattle.std.proofs.Common.{None, ◌∙◌}
+use Rattle.sst_block.specs.Iter.{place_of}
+use Rattle.sst_tests_blocks.proofs.BlockWalks.{sought, found-goes, found-paused, paused-there, paused-found}
 use Rattle.sst_tests_blocks.proofs.seeking.assert_sought.Goals as goal
 
 pub start-walk-requires : goal.start-walk-requires
@@ -12,12 +12,41 @@ seek-there-requires g c =
     let w = c.start-walk.ensures.within rows block in
     record { form = c.args.form; bytes = c.args.sought.0.now; rows = rows; block = block; place = None; walks = w; long = c.requires.target }
 
-pub key-requires : goal.key-requires
-key-requires g c =
+pub assert_row-requires : goal.assert_row-requires
+assert_row-requires g c =
     let (rows, block, many) = c.in-Ok.ensures.accepts in
-    let bytes = c.args.sought.0.now in
-    let target = c.args.sought.1.now in
     let w = c.start-walk.ensures.within rows block in
-    let there = c.seek-there.ensures.within c.args.form bytes rows block None w c.requires.target in
-    let told = c.seek-there.ensures.tells c.args.form bytes rows block None w c.requires.target in
-    Moved-stands _ _ (record { rows = rows; i = rows_before c.args.form target rows; walks = walks-of _ c.args.form bytes rows block _ there; told = told }) c.if-there.true
+    let f = sought _ _ c.args.form _ rows block _ _ w c.requires.target c.seek-there.ensures.within c.seek-there.ensures.tells in
+    (found-goes _ c.args.form _ _ f).there
+
+pub assert_place-requires : goal.assert_place-requires
+assert_place-requires g c =
+    let (rows, block, many) = c.in-Ok.ensures.accepts in
+    let w = c.start-walk.ensures.within rows block in
+    let f = sought _ _ c.args.form _ rows block _ _ w c.requires.target c.seek-there.ensures.within c.seek-there.ensures.tells in
+    let p = found-paused _ _ c.args.form _ _ _ f c.pause-place.ensures (c.as_slice-same.ensures ∙ c.in_ok-copy.ensures) in
+    paused-there _ c.args.form _ _ p
+
+pub resume-again-requires : goal.resume-again-requires
+resume-again-requires g c =
+    let (rows, block, many) = c.in-Ok.ensures.accepts in
+    let w = c.start-walk.ensures.within rows block in
+    let f = sought _ _ c.args.form _ rows block _ _ w c.requires.target c.seek-there.ensures.within c.seek-there.ensures.tells in
+    let p = found-paused _ _ c.args.form _ _ _ f c.pause-place.ensures (c.as_slice-same.ensures ∙ c.in_ok-copy.ensures) in
+    (p.rows, p.block, place_of p.rows p.i, p.paused)
+
+pub assert_row-requires-in-Ok : goal.assert_row-requires-in-Ok
+assert_row-requires-in-Ok g c =
+    let (rows, block, many) = c.in-Ok.ensures.accepts in
+    let w = c.start-walk.ensures.within rows block in
+    let f = sought _ _ c.args.form _ rows block _ _ w c.requires.target c.seek-there.ensures.within c.seek-there.ensures.tells in
+    let p = found-paused _ _ c.args.form _ _ _ f c.pause-place.ensures (c.as_slice-same.ensures ∙ c.in_ok-copy.ensures) in
+    (found-goes _ c.args.form _ _ (paused-found _ _ c.args.form _ _ p c.resume-again.ensures.within)).there
+
+pub goes_on-more-requires : goal.goes_on-more-requires
+goes_on-more-requires g c =
+    let (rows, block, many) = c.in-Ok.ensures.accepts in
+    let w = c.start-walk.ensures.within rows block in
+    let f = sought _ _ c.args.form _ rows block _ _ w c.requires.target c.seek-there.ensures.within c.seek-there.ensures.tells in
+    let p = found-paused _ _ c.args.form _ _ _ f c.pause-place.ensures (c.as_slice-same.ensures ∙ c.in_ok-copy.ensures) in
+    found-goes _ c.args.form _ _ (paused-found _ _ c.args.form _ _ p c.resume-again.ensures.within)
