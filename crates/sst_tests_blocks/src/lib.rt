@@ -13,7 +13,7 @@
 //! - [`seeking`]: walks that go to a target and to a restart.
 //! - [`index`]: the keys between blocks, and the bytes of some indexes.
 //! - [`index_walks`]: walks over the pairs of an index block.
-//! - [`filter_parts`]: filters in parts, and which part has a user key.
+//! - [`filter_parts`]: filters in parts: which part has a user key, and the bytes of some.
 //! - [`laws`]: the laws of these crates, and of what a file stands for.
 #![tactic(auto)]
 
