@@ -1,12 +1,18 @@
-//! Tests of filters in parts: which part has a user key.
+//! Tests of filters in parts: which part has a user key, and the bytes of some.
 //!
-//! RocksDB: `PartitionedFilterBlockReader` in table/block_based/partitioned_filter_block.cc.
-ghost use Rattle.std.specs.Prelude.{◌≤◌, ◌^◌, length};
+//! RocksDB: `PartitionedFilterBlockReader` and `PartitionedFilterBlockBuilder` in table/block_based/partitioned_filter_block.cc.
+//! The bits and checksums come from an independent program.
+ghost use Rattle.std.specs.Prelude.{◌≡◌, ◌≤◌, ◌<◌, ◌^◌, List, length};
+ghost use Rattle.sst_index.specs.Ends.{BlockEnd};
+ghost use Rattle.sst_index.specs.FilterBytes.{part_separators};
+ghost use Rattle.sst_index.specs.Index.{Holds};
+ghost use Rattle.sst_index.specs.IndexBytes.{IndexOptions};
 
+use crate::index::add_blocks;
 use sst_block::{RowForm, check_block};
-use sst_index::{IndexFlags, Pick, pick_part};
+use sst_index::{IndexBuilder, IndexFlags, PartFilterBuilder, Pick, pick_part};
 use sst_key::KeyRoom;
-use sst_num::Handle;
+use sst_num::{Handle, Memory};
 use std::alloc::Global;
 use std::process::Abort;
 use std::test::Fail;
@@ -102,5 +108,124 @@ fn parts_of_a_filter(rt: HostRuntime) -> Result<(), Fail> {
         assert!(rt; picked.2.len() <= 65_536);
         assert_picked(&rt, rt.alloc(), picked)?;
     }
+    Ok(())
+}
+
+/// Two blocks of one entry each, whose user key is 9A, at the sequence numbers 9 and 5.
+const SHARING: [(&[u8], Option<&[u8]>, Handle); 2] = [
+    (
+        b"\x9a\x01\x09\0\0\0\0\0\0",
+        Some(b"\x9a\x01\x05\0\0\0\0\0\0"),
+        Handle {
+            offset: 0,
+            size: 80,
+        },
+    ),
+    (
+        b"\x9a\x01\x05\0\0\0\0\0\0",
+        None,
+        Handle {
+            offset: 85,
+            size: 80,
+        },
+    ),
+];
+
+/// Two blocks of one entry each, whose user keys are 9A and 9C, at the sequence number 3.
+const APART: [(&[u8], Option<&[u8]>, Handle); 2] = [
+    (
+        b"\x9a\x01\x03\0\0\0\0\0\0",
+        Some(b"\x9c\x01\x03\0\0\0\0\0\0"),
+        Handle {
+            offset: 0,
+            size: 80,
+        },
+    ),
+    (
+        b"\x9c\x01\x03\0\0\0\0\0\0",
+        None,
+        Handle {
+            offset: 85,
+            size: 80,
+        },
+    ),
+];
+
+/// The filter of the user key 9A at 10 bits: six bits of one line, six probes, one line, and the trailer.
+const FILTER_9A: &[u8] = b"\0\0\0\0\x20\0\0\0\0\0\0\0\0\0\0\0\
+\0\0\x20\0\0\0\0\0\0\0\0\0\0\x20\0\0\
+\x20\0\0\0\0\0\0\0\0\0\0\x20\0\0\0\0\
+\0\0\0\0\0\0\0\0\0\x20\0\0\0\0\0\0\
+\x06\x01\0\0\0\
+\0\x8e\x65\x25\xe2";
+
+/// That of 9C.
+const FILTER_9C: &[u8] = b"\0\0\0\0\0\0\0\0\0\0\0\0\0\0\0\x40\
+\0\0\0\0\x04\0\0\0\x40\0\0\0\0\x04\0\0\
+\0\x40\0\0\0\0\x04\0\0\0\0\0\0\0\0\0\
+\0\0\0\0\0\0\0\0\0\0\0\0\0\0\0\0\
+\x06\x01\0\0\0\
+\0\x87\x39\x8c\xa3";
+
+/// The top block of version 4, which leads to 69 bytes at 255 and, with no byte more, at 329; both rows are of one restart.
+const TOP_OF_SHARING: &[u8] =
+    b"\0\x09\x9a\x01\x09\0\0\0\0\0\0\xff\x01\x45\x02\x07\x05\0\0\0\0\0\0\0\
+\0\0\0\0\x01\0\0\0\0\x8f\x3f\x8a\x35";
+
+/// That of version 3, whose separators are user keys; it leads to 69 bytes at 172 and at 246, and each row is a restart.
+const TOP_OF_APART: &[u8] = b"\0\x01\x03\x9a\xac\x01\x45\0\x01\x03\x9c\xf6\x01\x45\
+\0\0\0\0\x07\0\0\0\x02\0\0\0\0\xd7\x0c\x0e\xca";
+
+/// The bytes of a filter of two parts with a user key each, and where its top block stands.
+fn two_parts(
+    alloc: Global,
+    index: &IndexBuilder,
+    first: &[u8],
+    second: &[u8],
+    base: u64,
+    interval: u32,
+) -> Result<(Vec<u8>, Handle), Memory>
+    requires index { (options : IndexOptions) × (blocks : List BlockEnd) × Holds index.now options blocks × (length (part_separators options blocks) ≡ 2) }
+    requires base { base < 2 ^ 40 }
+    requires least { 1 ≤ interval }
+    requires most { interval ≤ 65536 }
+{
+    let mut filter = PartFilterBuilder::new(alloc, 10);
+    filter.add(first)?;
+    filter.cut()?;
+    filter.add(second)?;
+    filter.cut()?;
+    let mut out = Vec::new(alloc);
+    let top = filter.finish(base, index, interval, &mut out)?;
+    Ok((out, top))
+}
+
+/// Three pieces, one behind the other.
+fn joined(alloc: Global, pieces: [&[u8]; 3]) -> Result<Vec<u8>, Memory> {
+    let mut out = Vec::new(alloc);
+    for piece in pieces {
+        out.extend_from_slice(piece)?;
+    }
+    Ok(out)
+}
+
+#[test]
+fn filter_of_two_parts(rt: HostRuntime) -> Result<(), Fail> {
+    let mut index = IndexBuilder::new(rt.alloc(), 4, 2, 1)?;
+    add_blocks(&mut index, &SHARING)?;
+    let (found, top) = two_parts(rt.alloc(), &index, b"\x9a", b"\x9a", 255, 2)?;
+    assert_eq!(rt;
+        found,
+        joined(rt.alloc(), [FILTER_9A, FILTER_9A, TOP_OF_SHARING])?
+    );
+    assert_eq!(rt; (top.offset, top.size), (403, 32));
+    let mut index = IndexBuilder::new(rt.alloc(), 3, 1, 0)?;
+    add_blocks(&mut index, &APART)?;
+    let (found, top) = two_parts(rt.alloc(), &index, b"\x9a", b"\x9c", 172, 1)?;
+    assert_eq!(rt;
+        found,
+        joined(rt.alloc(), [FILTER_9A, FILTER_9C, TOP_OF_APART])?
+    );
+    assert_eq!(rt; (top.offset, top.size), (320, 26));
     Ok(())
 }

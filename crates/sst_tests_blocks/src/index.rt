@@ -75,7 +75,7 @@ fn separators(rt: HostRuntime) -> Result<(), Fail> {
 }
 
 /// Adds data blocks: the last key of each, the first key of the next, and where it stands.
-fn add_blocks(
+pub fn add_blocks(
     builder: &mut IndexBuilder,
     blocks: &[(&[u8], Option<&[u8]>, Handle)],
 ) -> Result<(), Memory>

@@ -14,7 +14,7 @@ use sst_block::{
 use sst_index::{
     a_part_is_the_first_not_before, a_seek_passes_the_pairs_before, a_separator_ends,
     a_separator_separates, an_index_block_says_its_pairs, an_index_says_its_pairs,
-    an_index_stands_in_a_file, partitions_are_the_pairs,
+    an_index_stands_in_a_file, no_key_of_a_part_is_denied, partitions_are_the_pairs,
 };
 use sst_meta::{
     a_file_loads_as_it_says, a_footer_is_read, a_footer_reads_back, a_meta_fault_is_shown,
@@ -42,6 +42,7 @@ fn of_an_index(_rt: HostRuntime) {
     an_index_says_its_pairs();
     an_index_stands_in_a_file();
     partitions_are_the_pairs();
+    no_key_of_a_part_is_denied();
 }
 
 #[test]

@@ -14,7 +14,7 @@
 //! - [`seeking`]: walks that go to a target, are paused and go on, and walks to a restart.
 //! - [`index`]: the keys between blocks, and the bytes of some indexes.
 //! - [`index_walks`]: walks over the pairs of an index block, which are paused and go on.
-//! - [`filter_parts`]: filters in parts, and which part has a user key.
+//! - [`filter_parts`]: filters in parts: which part has a user key, and the bytes of some.
 //! - [`laws`]: the laws of these crates, and of what a file stands for.
 #![tactic(auto)]
 
