@@ -1,5 +1,5 @@
 -- The probes of a hash, looked at one after the other.
-use Rattle.std.proofs.Common.{◌≡◌, ◌≢◌, ◌⊎◌, inl, inr, ℕ, zero, suc, ◌+◌, ◌-◌, ◌*◌, ◌/◌, ◌%◌, ◌<◌, ◌≤◌, ◌^◌, ◌==◌, Bool, true, false, not, ◌||◌, if◌then◌else◌, List, length, take, drop, get_or, bit_and, nat_le, Option, Some, None, refl, sym, ap, ap₂, ◌∙◌, arith}
+use Rattle.std.proofs.Common.{◌≡◌, ◌≢◌, ◌⊎◌, inl, inr, ℕ, zero, suc, ◌+◌, ◌-◌, ◌*◌, ◌/◌, ◌%◌, ◌<◌, ◌≤◌, ◌^◌, ◌==◌, Bool, true, false, not, ◌||◌, if◌then◌else◌, List, length, take, drop, get_or, bit_and, nat_le, Some, None, refl, sym, ap, ap₂, ◌∙◌, arith}
 use Rattle.std.specs.Int.{IsPowerOfTwo, is_power_of_two}
 use Rattle.std.proofs.lemmas.Nat.Bits.{shr_and_one, bit_at-lt}
 use Rattle.std.proofs.lemmas.Bool.Decides.{nat_tests}
@@ -53,11 +53,11 @@ last_or_before i n within = grind arith
 pub miss_at : (body : List ℕ) (lines size h n i : ℕ) → i < n → is_set body (position_of lines size h i) ≡ false → misses body lines size h n ≡ true
 miss_at body lines size h zero i within miss = absurd (omega arith)
 miss_at body lines size h (suc n) i within miss = elim (last_or_before i n within) [
-    | inl e ↦
-        ap (λ k. misses body lines size h n || not (is_set body (position_of lines size h k))) (sym e)
-        ∙ ap (λ b. misses body lines size h n || not b) miss
-        ∙ or_true (misses body lines size h n)
-    | inr before ↦ ap (λ b. b || not (is_set body (position_of lines size h n))) (miss_at body lines size h n i before miss)
+  | inl e ↦
+      ap (λ k. misses body lines size h n || not (is_set body (position_of lines size h k))) (sym e)
+      ∙ ap (λ b. misses body lines size h n || not b) miss
+      ∙ or_true (misses body lines size h n)
+  | inr before ↦ ap (λ b. b || not (is_set body (position_of lines size h n))) (miss_at body lines size h n i before miss)
 ]
 
 pub one_more : (body : List ℕ) (lines size h n : ℕ) → misses body lines size h n ≡ false → is_set body (position_of lines size h n) ≡ true →
@@ -69,7 +69,7 @@ one_more body lines size h n none hit =
 -- where the lines can be told apart their size was tested
 picked : (a b c : Bool) (size q : ℕ) → (if a then None else if b then (if c then Some q else None) else None) ≡ Some size → (c ≡ true) × (q ≡ size)
 picked true b c size q e = cc
-picked false true true size q e = (refl , cc)
+picked false true true size q e = (refl, cc)
 picked false true false size q e = cc
 picked false false c size q e = cc
 

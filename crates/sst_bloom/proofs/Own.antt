@@ -1,5 +1,5 @@
 -- A filter denies no key of its own.
-use Rattle.std.proofs.Common.{◌≡◌, ◌⊎◌, inl, inr, ℕ, zero, suc, ◌+◌, ◌-◌, ◌*◌, ◌/◌, ◌%◌, ◌<◌, ◌≤◌, ◌^◌, ◌==◌, ◌||◌, nat_le, Bool, true, false, not, if◌then◌else◌, List, [], ◌∷◌, ◌++◌, length, length-append, map, take, drop, get_or, slice_index, Option, Some, None, refl, sym, ap, ap₂, ◌∙◌, arith}
+use Rattle.std.proofs.Common.{◌≡◌, inl, inr, ℕ, zero, suc, ◌+◌, ◌*◌, ◌/◌, ◌%◌, ◌<◌, ◌≤◌, ◌^◌, ◌==◌, ◌||◌, nat_le, Bool, true, false, not, if◌then◌else◌, List, [], ◌∷◌, ◌++◌, length, length-append, map, get_or, Some, None, refl, sym, ap, ap₂, ◌∙◌, arith}
 use Rattle.std.specs.List.{range_with_len, Contains}
 use Rattle.std.specs.Int.{bit_at, is_power_of_two}
 use Rattle.std.specs.Int.Count.{ones}
@@ -8,7 +8,7 @@ use Rattle.std.proofs.Math.Seq.{take-append_seam, drop-append_seam}
 use Rattle.std.proofs.lemmas.Bool.Decides.{nat_tests}
 use Rattle.std.proofs.lemmas.List.{length-map}
 use Rattle.std.proofs.lemmas.List.FromFn.{length-map-range_with_len, get_or-map-range_with_len}
-use Rattle.sst_num.specs.Spelling.{fixed, fixed_value}
+use Rattle.sst_num.specs.Spelling.{fixed}
 use Rattle.sst_num.proofs.Fixed.{length-fixed, fixed_value-fixed}
 use Rattle.sst_bloom.specs.Lines.{is_set, key_hash, position_of, some_takes, takes}
 use Rattle.sst_bloom.specs.Filter.{bloom_filter, byte_of, filter_of_hashes, lines_of, probes_of}
@@ -35,12 +35,12 @@ written_bit says n p within =
 takes_own : (lines size h n i : ℕ) → i < n → takes lines size h n (position_of lines size h i) ≡ true
 takes_own lines size h zero i within = absurd (omega arith)
 takes_own lines size h (suc n) i within = elim (last_or_before i n within) [
-    | inl e ↦
-        let p = position_of lines size h i in
-        ap (λ b. takes lines size h n p || b) (ap (λ k. position_of lines size h k == p) (sym e) ∙ equal_tested p p refl) ∙ or_true (takes lines size h n p)
-    | inr before ↦
-        let p = position_of lines size h i in
-        ap (λ b. b || (position_of lines size h n == p)) (takes_own lines size h n i before)
+  | inl e ↦
+      let p = position_of lines size h i in
+      ap (λ b. takes lines size h n p || b) (ap (λ k. position_of lines size h k == p) (sym e) ∙ equal_tested p p refl) ∙ or_true (takes lines size h n p)
+  | inr before ↦
+      let p = position_of lines size h i in
+      ap (λ b. b || (position_of lines size h n == p)) (takes_own lines size h n i before)
 ]
 
 some_own : (lines n : ℕ) (users : List (List ℕ)) (user : List ℕ) (k p : ℕ) → k < length users → get_or users k user ≡ user →
@@ -110,7 +110,7 @@ lines_few keys bits few small =
 pub added_is_not_denied : (bits : ℕ) (users : List (List ℕ)) (user : List ℕ) → bits ≤ 100 → length users ≤ key_limit → Contains users user →
     denies (bloom_filter bits users) user ≡ false
 unfolding bloom_filter filter_of_hashes
-added_is_not_denied bits users user small few (k , within , e) =
+added_is_not_denied bits users user small few (k, within, e) =
     let hashes = map key_hash users in
     let same : length hashes ≡ length users = length-map users key_hash in
     let lines = lines_of (length hashes) bits in

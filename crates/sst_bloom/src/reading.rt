@@ -36,7 +36,7 @@ impl<'b> Bloom<'b> {
         Bloom { filter }
     }
 
-    /// Whether no key that was added is this user key. Takes no memory.
+    /// Whether the filter denies the user key: then it isn't among the keys that were added. Takes no memory.
     ///
     /// RocksDB: `MayMatch` of the readers in table/block_based/filter_policy.cc, which answers the contrary.
     pub fn denies(&self, user: &[u8]) -> bool
