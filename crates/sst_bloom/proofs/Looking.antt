@@ -1,10 +1,10 @@
 -- The probes of a hash, looked at one after the other.
-use Rattle.std.proofs.Common.{◌≡◌, ◌≢◌, ◌⊎◌, inl, inr, ℕ, zero, suc, ◌+◌, ◌-◌, ◌*◌, ◌/◌, ◌%◌, ◌<◌, ◌≤◌, ◌^◌, ◌==◌, Bool, true, false, not, ◌||◌, if◌then◌else◌, List, length, take, drop, get_or, bit_and, nat_le, Option, Some, None, refl, sym, ap, ap₂, ◌∙◌, arith}
+use Rattle.std.proofs.Common.{◌≡◌, ◌≢◌, ◌⊎◌, inl, inr, ℕ, zero, suc, ◌+◌, ◌-◌, ◌*◌, ◌/◌, ◌%◌, ◌<◌, ◌≤◌, ◌^◌, ◌==◌, Bool, true, false, not, ◌||◌, if◌then◌else◌, List, length, take, drop, get_or, bit_and, nat_le, Some, None, refl, sym, ap, ap₂, ◌∙◌, arith}
 use Rattle.std.specs.Int.{IsPowerOfTwo, is_power_of_two}
 use Rattle.std.proofs.lemmas.Nat.Bits.{shr_and_one, bit_at-lt}
 use Rattle.std.proofs.lemmas.Bool.Decides.{nat_tests}
-use Rattle.sst_bloom.specs.Lines.{is_set, key_hash, position_of, step_of}
-use Rattle.sst_bloom.specs.Reading.{line_size, misses, denied_by, denies}
+use Rattle.sst_bloom.specs.Lines.{is_set, position_of, step_of}
+use Rattle.sst_bloom.specs.Reading.{line_size, misses, denied_by, denied}
 use Rattle.sst_bloom.proofs.Bits.{or_true}
 use Rattle.sst_bloom.proofs.Powers.{position_parts, power_tested}
 
@@ -53,11 +53,11 @@ last_or_before i n within = grind arith
 pub miss_at : (body : List ℕ) (lines size h n i : ℕ) → i < n → is_set body (position_of lines size h i) ≡ false → misses body lines size h n ≡ true
 miss_at body lines size h zero i within miss = absurd (omega arith)
 miss_at body lines size h (suc n) i within miss = elim (last_or_before i n within) [
-    | inl e ↦
-        ap (λ k. misses body lines size h n || not (is_set body (position_of lines size h k))) (sym e)
-        ∙ ap (λ b. misses body lines size h n || not b) miss
-        ∙ or_true (misses body lines size h n)
-    | inr before ↦ ap (λ b. b || not (is_set body (position_of lines size h n))) (miss_at body lines size h n i before miss)
+  | inl e ↦
+      ap (λ k. misses body lines size h n || not (is_set body (position_of lines size h k))) (sym e)
+      ∙ ap (λ b. misses body lines size h n || not b) miss
+      ∙ or_true (misses body lines size h n)
+  | inr before ↦ ap (λ b. b || not (is_set body (position_of lines size h n))) (miss_at body lines size h n i before miss)
 ]
 
 pub one_more : (body : List ℕ) (lines size h n : ℕ) → misses body lines size h n ≡ false → is_set body (position_of lines size h n) ≡ true →
@@ -69,7 +69,7 @@ one_more body lines size h n none hit =
 -- where the lines can be told apart their size was tested
 picked : (a b c : Bool) (size q : ℕ) → (if a then None else if b then (if c then Some q else None) else None) ≡ Some size → (c ≡ true) × (q ≡ size)
 picked true b c size q e = cc
-picked false true true size q e = (refl , cc)
+picked false true true size q e = (refl, cc)
 picked false true false size q e = cc
 picked false false c size q e = cc
 
@@ -85,13 +85,15 @@ short_tested n short = grind (arith, nat_tests)
 long_tested : (n : ℕ) → 5 < n → nat_le n 5 ≡ false
 long_tested n long = grind (arith, nat_tests)
 
-pub denies_short : (filter user : List ℕ) → length filter ≤ 5 → denies filter user ≡ true
-unfolding denies
-denies_short filter user short =
-    ap (λ b. if b then true else denied_by (take (length filter - 5) filter) (drop (length filter - 5) filter) (key_hash user)) (short_tested (length filter) short)
+pub denied_short : (filter : List ℕ) (h : ℕ) → length filter ≤ 5 → denied filter h ≡ true
+unfolding denied
+denied_short filter h short =
+    ap (λ b. if b then true else denied_by (take (length filter - 5) filter) (drop (length filter - 5) filter) h) (short_tested (length filter) short)
 
-pub denies_long : (filter user : List ℕ) → 5 < length filter →
-    denied_by (take (length filter - 5) filter) (drop (length filter - 5) filter) (key_hash user) ≡ denies filter user
-unfolding denies
-denies_long filter user long =
-    sym (ap (λ b. if b then true else denied_by (take (length filter - 5) filter) (drop (length filter - 5) filter) (key_hash user)) (long_tested (length filter) long))
+pub denied_long : (filter : List ℕ) (h at : ℕ) → at + 5 ≡ length filter → 0 < at → denied_by (take at filter) (drop at filter) h ≡ denied filter h
+unfolding denied
+denied_long filter h at whole some =
+    let front : at ≡ length filter - 5 = omega arith in
+    let long : nat_le (length filter) 5 ≡ false = long_tested (length filter) (omega arith) in
+    ap (λ n. denied_by (take n filter) (drop n filter) h) front
+    ∙ sym (ap (λ b. if b then true else denied_by (take (length filter - 5) filter) (drop (length filter - 5) filter) h) long)

@@ -1,5 +1,5 @@
 -- A filter denies no key of its own.
-use Rattle.std.proofs.Common.{◌≡◌, ◌⊎◌, inl, inr, ℕ, zero, suc, ◌+◌, ◌-◌, ◌*◌, ◌/◌, ◌%◌, ◌<◌, ◌≤◌, ◌^◌, ◌==◌, ◌||◌, nat_le, Bool, true, false, not, if◌then◌else◌, List, [], ◌∷◌, ◌++◌, length, length-append, map, take, drop, get_or, slice_index, Option, Some, None, refl, sym, ap, ap₂, ◌∙◌, arith}
+use Rattle.std.proofs.Common.{◌≡◌, inl, inr, ℕ, zero, suc, ◌+◌, ◌*◌, ◌/◌, ◌%◌, ◌<◌, ◌≤◌, ◌^◌, ◌==◌, ◌||◌, nat_le, Bool, true, false, not, if◌then◌else◌, List, [], ◌∷◌, ◌++◌, length, length-append, map, get_or, Some, None, refl, sym, ap, ap₂, ◌∙◌, arith}
 use Rattle.std.specs.List.{range_with_len, Contains}
 use Rattle.std.specs.Int.{bit_at, is_power_of_two}
 use Rattle.std.specs.Int.Count.{ones}
@@ -8,14 +8,14 @@ use Rattle.std.proofs.Math.Seq.{take-append_seam, drop-append_seam}
 use Rattle.std.proofs.lemmas.Bool.Decides.{nat_tests}
 use Rattle.std.proofs.lemmas.List.{length-map}
 use Rattle.std.proofs.lemmas.List.FromFn.{length-map-range_with_len, get_or-map-range_with_len}
-use Rattle.sst_num.specs.Spelling.{fixed, fixed_value}
+use Rattle.sst_num.specs.Spelling.{fixed}
 use Rattle.sst_num.proofs.Fixed.{length-fixed, fixed_value-fixed}
 use Rattle.sst_bloom.specs.Lines.{is_set, key_hash, position_of, some_takes, takes}
 use Rattle.sst_bloom.specs.Filter.{bloom_filter, byte_of, filter_of_hashes, lines_of, probes_of}
-use Rattle.sst_bloom.specs.Reading.{denied_by, denied_in, denies, line_size, misses}
+use Rattle.sst_bloom.specs.Reading.{denied, denied_by, denied_in, denies, line_size, misses}
 use Rattle.sst_bloom.specs.Builder.{key_limit}
 use Rattle.sst_bloom.proofs.Bits.{or_true, equal_tested, apart_tested}
-use Rattle.sst_bloom.proofs.Looking.{denies_long, last_or_before}
+use Rattle.sst_bloom.proofs.Looking.{denied_long, last_or_before}
 use Rattle.sst_bloom.proofs.Only.{number_bit}
 
 -- ---- the bits of what is written
@@ -35,12 +35,12 @@ written_bit says n p within =
 takes_own : (lines size h n i : ℕ) → i < n → takes lines size h n (position_of lines size h i) ≡ true
 takes_own lines size h zero i within = absurd (omega arith)
 takes_own lines size h (suc n) i within = elim (last_or_before i n within) [
-    | inl e ↦
-        let p = position_of lines size h i in
-        ap (λ b. takes lines size h n p || b) (ap (λ k. position_of lines size h k == p) (sym e) ∙ equal_tested p p refl) ∙ or_true (takes lines size h n p)
-    | inr before ↦
-        let p = position_of lines size h i in
-        ap (λ b. b || (position_of lines size h n == p)) (takes_own lines size h n i before)
+  | inl e ↦
+      let p = position_of lines size h i in
+      ap (λ b. takes lines size h n p || b) (ap (λ k. position_of lines size h k == p) (sym e) ∙ equal_tested p p refl) ∙ or_true (takes lines size h n p)
+  | inr before ↦
+      let p = position_of lines size h i in
+      ap (λ b. b || (position_of lines size h n == p)) (takes_own lines size h n i before)
 ]
 
 some_own : (lines n : ℕ) (users : List (List ℕ)) (user : List ℕ) (k p : ℕ) → k < length users → get_or users k user ≡ user →
@@ -88,13 +88,11 @@ written_denied body lines probes h some few long least most =
     ∙ ap (λ l. denied_in body l h probes (line_size l (length body))) (fixed_value-fixed 4 lines few)
     ∙ ap (denied_in body lines h probes) (written_size lines (length body) some long)
 
-pub joined_denied : (body end user : List ℕ) → length end ≡ 5 → 0 < length body → denies (body ++ end) user ≡ denied_by body end (key_hash user)
-joined_denied body end user five some =
-    let long : length (body ++ end) ≡ length body + 5 = length-append body end ∙ omega (arith, five) in
-    let at : length (body ++ end) - 5 ≡ length body = omega (arith, long) in
-    sym (denies_long (body ++ end) user (omega (arith, long)))
-    ∙ ap (λ n. denied_by (take n (body ++ end)) (drop n (body ++ end)) (key_hash user)) at
-    ∙ ap₂ (λ b e. denied_by b e (key_hash user)) (take-append_seam body end) (drop-append_seam body end)
+pub joined_denied : (body end : List ℕ) (h : ℕ) → length end ≡ 5 → 0 < length body → denied (body ++ end) h ≡ denied_by body end h
+joined_denied body end h five some =
+    let long : length body + 5 ≡ length (body ++ end) = sym (length-append body end ∙ omega (arith, five)) in
+    sym (denied_long (body ++ end) h (length body) long some)
+    ∙ ap₂ (λ b e. denied_by b e h) (take-append_seam body end) (drop-append_seam body end)
 
 -- ---- how many lines and probes there are
 
@@ -112,7 +110,7 @@ lines_few keys bits few small =
 pub added_is_not_denied : (bits : ℕ) (users : List (List ℕ)) (user : List ℕ) → bits ≤ 100 → length users ≤ key_limit → Contains users user →
     denies (bloom_filter bits users) user ≡ false
 unfolding bloom_filter filter_of_hashes
-added_is_not_denied bits users user small few (k , within , e) =
+added_is_not_denied bits users user small few (k, within, e) =
     let hashes = map key_hash users in
     let same : length hashes ≡ length users = length-map users key_hash in
     let lines = lines_of (length hashes) bits in
@@ -121,7 +119,7 @@ added_is_not_denied bits users user small few (k , within , e) =
     let long : length body ≡ 64 * lines = length-map-range_with_len (byte_of (some_takes lines 64 hashes probes)) 0 (64 * lines) in
     let some : 1 ≤ lines = lines_some (length hashes) bits in
     let below : lines < 256 ^ 4 = lines_few (length hashes) bits (omega (arith, same)) small in
-    joined_denied body (probes ∷ fixed 4 lines) user (ap suc (length-fixed 4 lines)) (omega (arith, long))
+    joined_denied body (probes ∷ fixed 4 lines) (key_hash user) (ap suc (length-fixed 4 lines)) (omega (arith, long))
     ∙ written_denied body lines probes (key_hash user) some below long (omega arith) (omega arith)
     ∙ none_missed body lines (key_hash user) probes probes (omega arith)
     (λ i inside.

@@ -2,7 +2,7 @@
 -- RocksDB: LegacyBloomBitsBuilder in table/block_based/filter_policy.cc, LegacyNoLocalityBloomImpl::ChooseNumProbes and
 -- LegacyLocalityBloomImpl in util/bloom_impl.h.
 -- Pinned by: finish.exact, filter_of_one_key
-use Rattle.std.specs.Prelude.{◌≡◌, ℕ, zero, suc, ◌+◌, ◌*◌, ◌/◌, ◌%◌, ◌<◌, ◌==◌, min, max, Bool, if◌then◌else◌, List, [], ◌∷◌, ◌++◌, length, map, drop}
+use Rattle.std.specs.Prelude.{◌≡◌, ℕ, zero, suc, ◌+◌, ◌*◌, ◌/◌, ◌%◌, ◌<◌, ◌==◌, min, max, Bool, if◌then◌else◌, List, ◌∷◌, ◌++◌, length, map, drop}
 use Rattle.std.specs.List.{range_with_len}
 use Rattle.sst_num.specs.Spelling.{fixed}
 use Rattle.sst_bloom.specs.Lines.{AreBytes, is_set, key_hash, some_takes}
@@ -50,5 +50,5 @@ pub record IsFilter (bits : ℕ) (users : List (List ℕ)) (filter : List ℕ) :
   pub long : length filter ≡ 64 * lines_of (length users) bits + 5
   pub bytes : AreBytes filter
   pub set_where_taken : (p : ℕ) → p < 512 * lines_of (length users) bits
-    → is_set filter p ≡ some_takes (lines_of (length users) bits) 64 (map key_hash users) (probes_of bits) p
+      → is_set filter p ≡ some_takes (lines_of (length users) bits) 64 (map key_hash users) (probes_of bits) p
   pub end : drop (64 * lines_of (length users) bits) filter ≡ probes_of bits ∷ fixed 4 (lines_of (length users) bits)

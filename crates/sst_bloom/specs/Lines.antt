@@ -5,7 +5,8 @@ use Rattle.std.specs.Prelude.{ℕ, zero, suc, ◌+◌, ◌*◌, ◌/◌, ◌%◌
 use Rattle.sst_sums.specs.Hash.{hash32}
 
 -- each number is one of a byte
--- For proofs alone.
+-- Own.
+-- Pinned by: a_filter_is_the_only_one
 abbrev pub AreBytes : List ℕ → Type 0
 AreBytes bytes = (k : ℕ) → slice_index bytes k < 256
 

@@ -37,9 +37,14 @@ denied_by body end h =
     else if nat_le 128 probes then false
     else denied_in body lines h probes (line_size lines (length body))
 
--- the filter denies the user key: where it has at most five bytes it denies each key
--- Pinned by: filters_read, an_added_key_is_not_denied
-unfoldable pub denies : List ℕ → List ℕ → Bool
-denies filter user =
+-- the filter denies a hash: where it has at most five bytes it denies each
+-- Pinned by: five_bytes_are_read, filters_read
+unfoldable pub denied : List ℕ → ℕ → Bool
+denied filter h =
     let at = length filter - 5 in
-    if nat_le (length filter) 5 then true else denied_by (take at filter) (drop at filter) (key_hash user)
+    if nat_le (length filter) 5 then true else denied_by (take at filter) (drop at filter) h
+
+-- the filter denies the user key
+-- Pinned by: filters_read, an_added_key_is_not_denied
+abbrev pub denies : List ℕ → List ℕ → Bool
+denies filter user = denied filter (key_hash user)

@@ -36,17 +36,27 @@ impl<'b> Bloom<'b> {
         Bloom { filter }
     }
 
-    /// Whether no key that was added is this user key. Takes no memory.
+    /// Whether the filter denies the user key: then it isn't among the keys that were added. Takes no memory.
     ///
     /// RocksDB: `MayMatch` of the readers in table/block_based/filter_policy.cc, which answers the contrary.
     pub fn denies(&self, user: &[u8]) -> bool
         ensures { result ≡ reading.denies self.now user.now }
     {
-        if self.filter.len() <= END {
-            return true;
+        denied(self.filter, hash32(user, SEED))
+    }
+}
+
+/// Whether a filter denies a hash.
+#[tactic(auto, using(crate::proofs::Looking::denied_short, crate::proofs::Looking::denied_long))]
+fn denied(filter: &[u8], hash: u32) -> bool
+    ensures { result ≡ reading.denied filter.now hash }
+{
+    match filter.len().checked_sub(END) {
+        None | Some(0) => true,
+        Some(at) => {
+            let (body, end) = filter.split_at(at);
+            denied_by(body, end, hash)
         }
-        let (body, end) = self.filter.split_at(self.filter.len() - END);
-        denied_by(body, end, hash32(user, SEED))
     }
 }
 

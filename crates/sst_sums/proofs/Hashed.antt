@@ -1,5 +1,5 @@
 -- Four bytes of a hash at once, as the number that they spell.
-use Rattle.std.proofs.Common.{◌≡◌, ℕ, zero, suc, ◌+◌, ◌*◌, ◌%◌, ◌<◌, ◌^◌, List, [], ◌∷◌, ◌++◌, length, refl, ap, ◌∙◌, arith}
+use Rattle.std.proofs.Common.{◌≡◌, ℕ, ◌+◌, ◌*◌, ◌^◌, List, [], ◌∷◌, ◌++◌, length, ap, arith}
 use Rattle.byteorder.specs.Endian.{little_number}
 use Rattle.sst_sums.specs.Hash.{after_word, after_bytes}
 

@@ -1,4 +1,4 @@
-use Rattle.std.proofs.Common.{◌≡◌, ℕ, ◌+◌, ◌*◌, ◌%◌, ◌^◌, ◌||◌, length}
+use Rattle.std.proofs.Common.{◌≡◌, ℕ, ◌+◌, ◌*◌, ◌%◌, ◌^◌, ◌||◌}
 use Rattle.sst_bloom.specs.Lines.{AreBytes, is_set, step_of, takes}
 use Rattle.sst_bloom.proofs.lines.set_probes.Given as goal
 

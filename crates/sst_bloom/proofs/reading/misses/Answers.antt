@@ -14,9 +14,9 @@ pub loop-preserved : goal.loop-preserved
 loop-preserved c =
     record {
       none =
-      one_more c.args.body.now c.args.lines c.args.size c.args.hash c.loop.counter c.loop.invariant.none
-      (probe_set c.args.body.now c.args.lines c.args.size c.args.hash c.loop.counter c.loop.h c.byte_in_line.result c.requires.power c.loop.invariant.turned
-      c.byte_in_line.ensures.exact c.if-byte-h-eq0.false);
+          one_more c.args.body.now c.args.lines c.args.size c.args.hash c.loop.counter c.loop.invariant.none
+          (probe_set c.args.body.now c.args.lines c.args.size c.args.hash c.loop.counter c.loop.h c.byte_in_line.result c.requires.power c.loop.invariant.turned
+          c.byte_in_line.ensures.exact c.if-byte-h-eq0.false);
       turned = turned_more c.args.hash c.loop.counter c.loop.h c.step_between-step.result (step_of c.args.hash) c.loop.invariant.turned c.loop.invariant.step_is;
       step_is = c.loop.invariant.step_is;
     }

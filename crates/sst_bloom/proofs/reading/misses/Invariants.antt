@@ -1,4 +1,4 @@
-use Rattle.std.proofs.Common.{◌≡◌, ℕ, ◌+◌, ◌*◌, ◌%◌, ◌^◌, false}
+use Rattle.std.proofs.Common.{◌≡◌, ◌+◌, ◌*◌, ◌%◌, ◌^◌, false}
 use Rattle.sst_bloom.specs.Lines.{step_of}
 use Rattle.sst_bloom.specs.Reading.{misses}
 use Rattle.sst_bloom.proofs.reading.misses.Given as goal

@@ -1,4 +1,4 @@
-use Rattle.std.proofs.Common.{◌≡◌, ◌∙◌, ap, sym}
+use Rattle.std.proofs.Common.{◌∙◌, ap, sym}
 use Rattle.sst_sums.specs.Hash.{after_word, after_bytes}
 use Rattle.sst_sums.proofs.Hashed.{four_bytes}
 use Rattle.sst_sums.proofs.hash.after_bytes.Goals as goal

@@ -1,4 +1,4 @@
-use Rattle.std.proofs.Common.{◌≡◌, ◌∙◌, ap, ap₂, sym}
+use Rattle.std.proofs.Common.{◌∙◌, ap₂}
 use Rattle.std.proofs.lemmas.Result.{IfOk-weaker}
 use Rattle.sst_bloom.specs.Filter.{bloom_filter, filter_of_hashes}
 use Rattle.sst_bloom.proofs.builder.BloomBuilder.finish.Goals as goal
