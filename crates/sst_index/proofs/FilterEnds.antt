@@ -1,5 +1,5 @@
 -- What a builder of a filter in parts writes at its end.
-use Rattle.std.proofs.Common.{◌≡◌, inl, inr, ℕ, ◌+◌, ◌≤◌, false, List, [], ◌∷◌, ◌++◌, length, length-append, map, sum_by, refl, sym, ap, ◌∙◌, subst, append_assoc, arith}
+use Rattle.std.proofs.Common.{◌≡◌, inl, inr, ℕ, ◌+◌, ◌≤◌, false, List, [], ◌∷◌, ◌++◌, length, length-append, sum_by, refl, sym, ap, ◌∙◌, subst, append_assoc, arith}
 use Rattle.std.proofs.lemmas.List.{length-map}
 use Rattle.std.proofs.lemmas.List.Sums.{sum_by-cons}
 use Rattle.sst_num.specs.declared.block_handle.Handle.{Handle}
@@ -8,7 +8,7 @@ use Rattle.sst_device.specs.Framed.{frame_of}
 use Rattle.sst_index.specs.declared.builder.IndexBuilder.{IndexBuilder}
 use Rattle.sst_index.specs.declared.filter_parts.PartFilterBuilder.{PartFilterBuilder}
 use Rattle.sst_index.specs.declared.flags.IndexFlags.{IndexFlags}
-use Rattle.sst_index.specs.Ends.{BlockEnd, flags_of, pairs_of}
+use Rattle.sst_index.specs.Ends.{BlockEnd, flags_of}
 use Rattle.sst_index.specs.FilterBytes.{filter_bytes, filter_handle, filter_sizes, filter_top, leading_pairs, part_separators, stored_filters, stored_size}
 use Rattle.sst_index.specs.FilterParts.{CanEnd, HoldsParts}
 use Rattle.sst_index.specs.Index.{Holds, IsReady, kept_pairs}

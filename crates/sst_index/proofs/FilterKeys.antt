@@ -1,8 +1,8 @@
 -- The part that is picked for a user key of a filter is the one that has it.
-use Rattle.std.proofs.Common.{◌≡◌, ◌≢◌, ◌⊎◌, inl, inr, ℕ, zero, suc, ◌+◌, ◌^◌, ◌<◌, ◌≤◌, if◌then◌else◌, Bool, true, false, bytes_eq, Option, None, Some, List, [], ◌∷◌, length, All, refl, sym, ap, ◌∙◌, subst, arith}
+use Rattle.std.proofs.Common.{◌≡◌, ◌≢◌, ◌⊎◌, inl, inr, ℕ, zero, suc, ◌+◌, ◌^◌, ◌<◌, ◌≤◌, Bool, true, false, bytes_eq, Option, None, Some, List, [], ◌∷◌, length, refl, sym, ap, ◌∙◌, subst, arith}
 use Rattle.std.specs.Prelude.{slice_get, Contains}
 use Rattle.std.specs.Ordering.{nat_cmp, is_lt, ordering_then}
-use Rattle.std.specs.Cmp.{IsTotalOrder, ranked}
+use Rattle.std.specs.Cmp.{ranked}
 use Rattle.std.specs.Cmp.Lexicographic.{slice_cmp}
 use Rattle.std.specs.FinMap.{slice_cmp-IsAntisymmetric, nat_cmp-IsAntisymmetric}
 use Rattle.std.specs.declared.cmp.Ordering.{Ordering}
@@ -17,13 +17,10 @@ use Rattle.sst_bloom.specs.Builder.{key_limit}
 use Rattle.sst_bloom.specs.Filter.{bloom_filter}
 use Rattle.sst_bloom.specs.Reading.{denies}
 use Rattle.sst_bloom.proofs.Own.{added_is_not_denied}
-use Rattle.sst_block.specs.declared.row_form.RowForm.TheVariants.{Index}
-use Rattle.sst_block.specs.Block.{key_cmp}
 use Rattle.sst_block.specs.IndexRows.{IndexPair}
-use Rattle.sst_index.specs.declared.pick.Pick.{Pick}
 use Rattle.sst_index.specs.declared.pick.Pick.TheVariants.{Part, Unsure, Beyond}
 use Rattle.sst_index.specs.FilterBytes.{filter_pairs, stored_size}
-use Rattle.sst_index.specs.FilterKeys.{IsBehindSeparator, IsBetween, IsNextSeparator, FitsPart, FitParts, separator_user}
+use Rattle.sst_index.specs.FilterKeys.{IsBehindSeparator, IsBetween, IsNextSeparator, FitParts, separator_user}
 use Rattle.sst_index.specs.Pick.{greatest_tag, is_before_user, part_at, part_of}
 use Rattle.sst_index.proofs.Kept.{user-up_to}
 use Rattle.sst_index.proofs.Order.{less_up_to}

@@ -77,6 +77,34 @@
 //! 35 00 00 00 00 01 00 00 00                   the one restart
 //! ```
 //!
+//! # Filters in parts
+//!
+//! A table may have one filter for the user keys of each row of its index's top block. They stand one behind the other, and
+//! behind them a top block of their own, which leads to the i-th filter from the i-th key of the index's top block, in the
+//! form of the index. Each is stored with its trailer.
+//!
+//! ```text
+//! | filter | trailer | .. | filter | trailer | top block | trailer |
+//! ```
+//!
+//! A user key is sought in the filter of the first separator that isn't before it. A stored separator of this very user key leaves
+//! that open, because entries of the user key may stand on both sides of it; then no filter is asked. Behind all separators the
+//! table has no key.
+//!
+//! The filter of two data blocks with an entry each, of the user keys 9A and 9C, at 10 bits a key; it begins at 172, and the
+//! separators are the user keys:
+//!
+//! ```text
+//! at  bytes                                        what they are
+//! 172 64 bytes, 06, 01 00 00 00                    the filter of 9A
+//! 241 00 8e 65 25 e2                               the trailer
+//! 246 64 bytes, 06, 01 00 00 00                    the filter of 9C
+//! 315 00 87 39 8c a3                               the trailer
+//! 320 00 01 03 9a ac 01 45 00 01 03 9c f6 01 45    9A leads to 172, 69 bytes; 9C leads to 246, 69 bytes
+//! 334 00 00 00 00 07 00 00 00 02 00 00 00          two restarts, at 0 and 7
+//! 346 00 d7 0c 0e ca                               the trailer
+//! ```
+//!
 //! # Promises
 //!
 //! - [`put_separator`] appends the separator (`separator_of`, specs/Separators.antt), and takes no other memory.
@@ -97,6 +125,9 @@
 //! - [`pick_part`] picks the part of a filter that has a user key, by the top block of the parts: that of the first separator
 //!   that isn't before the key (`part_of`, specs/Pick.antt; [`a_part_is_the_first_not_before`]). A stored separator of this very
 //!   user key leaves the part open. It takes no memory.
+//! - [`PartFilterBuilder`] takes the user keys of each part, and appends the bytes of the filter (`filter_bytes`,
+//!   specs/FilterBytes.antt). Where the user keys of each part stand between the separators (`FitParts`, specs/FilterKeys.antt), the
+//!   part that is picked for one of them is the one that has it, and doesn't deny it ([`no_key_of_a_part_is_denied`]).
 //! - Where memory runs out a call answers so, and so does each later call of that builder that can fail.
 //!
 //! RocksDB: table/block_based/index_builder.h and index_builder.cc, and util/comparator.cc. RocksDB shortens separators in more
